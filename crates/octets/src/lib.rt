@@ -1,0 +1,270 @@
+// Byte classes and the scanners that every other reader calls.
+ghost use mathlib.Core.Path.{_≡_};
+ghost use Prim.Native.Nat.{_-_, _≤_, min};
+ghost use mathlib.Core.Bool.{cond};
+ghost use lib.ListN.{length, take, drop};
+ghost use Rattle.octets.specs.Classes.{within, bit, classTable, inTable, isHex};
+ghost use Rattle.octets.specs.Scans.{run, starts, escape, runEscaped, quoted, noNumber, number, lower, same, sameText};
+
+mod table;
+
+// A run of digits: how many there are, and the number that they write. Size 0 where no good number stands there.
+pub struct NumberAt {
+    pub size: usize,
+    pub value: u64,
+}
+
+const NO_NUMBER: NumberAt = NumberAt { size: 0, value: 0 };
+
+// The classes of the table, by their bits.
+pub const TOKEN: u16 = 1;
+
+pub const BLANK: u16 = 2;
+
+pub const DIGIT: u16 = 4;
+
+pub const HEX: u16 = 8;
+
+pub const USER: u16 = 16;
+
+pub const PARAMETER: u16 = 32;
+
+pub const HOST: u16 = 64;
+
+pub const VALUE: u16 = 128;
+
+pub const VISIBLE: u16 = 256;
+
+pub const GAP: u16 = 512;
+
+// The table of class masks. A caller makes it once and lends it down: indexing the constant in a loop would copy it for each byte.
+pub fn class_table() -> [u16; 256]
+    ensures { λ r. ⌜ r ≡ classTable ⌝ }
+{
+    table::CLASSES
+}
+
+// How many of the leading bytes are in a class of the mask, by the table that is lent.
+pub fn run(table: &[u16; 256], s: &[u8], mask: u16) -> usize
+    ensures { λ r. ⌜ (r ≡ run (inTable (now (table .entry)) mask) (now (s .entry))) × (r ≤ length (now (s .entry))) ⌝ }
+{
+    let mut size = 0;
+    while size < s.len() {
+        let b = s[size] as usize;
+        if table[b] & mask == 0 {
+            return size;
+        }
+        size += 1;
+    }
+    size
+}
+
+// What is left after n bytes.
+pub fn rest(s: &[u8], n: usize) -> &[u8]
+    ensures { λ r. ⌜ (now r ≡ drop n (now (s .entry))) × (length (now r) ≡ length (now (s .entry)) - n) ⌝ }
+{
+    if s.len() <= n {
+        return &s[..0];
+    }
+    &s[n..]
+}
+
+// The first n bytes, or all where there are fewer.
+pub fn first(s: &[u8], n: usize) -> &[u8]
+    ensures { λ r. ⌜ (now r ≡ take n (now (s .entry))) × (length (now r) ≡ min n (length (now (s .entry)))) ⌝ }
+{
+    if s.len() <= n {
+        return s;
+    }
+    &s[..n]
+}
+
+// 1 where the first byte is b, else 0: how many bytes to pass over.
+pub fn ahead(s: &[u8], b: u8) -> usize
+    ensures { λ r. ⌜ (r ≡ bit (starts b (now (s .entry)))) × (r ≤ length (now (s .entry))) ⌝ }
+{
+    if s.len() < 1 {
+        return 0;
+    }
+    if s[0] != b {
+        return 0;
+    }
+    1
+}
+
+// The two texts have the same bytes.
+pub fn same(a: &[u8], b: &[u8]) -> bool
+    ensures { λ r. ⌜ r ≡ same (now (a .entry)) (now (b .entry)) ⌝ }
+{
+    if a.len() != b.len() {
+        return false;
+    }
+    let mut i = 0;
+    while i < a.len() {
+        if a[i] != b[i] {
+            return false;
+        }
+        i += 1;
+    }
+    true
+}
+
+// A letter in its small form.
+fn small(b: u8) -> u8
+    ensures { λ r. ⌜ r ≡ lower b ⌝ }
+{
+    if b < 65 {
+        return b;
+    }
+    if 90 < b {
+        return b;
+    }
+    b + 32
+}
+
+// The two texts have the same bytes in any letter case.
+pub fn same_text(a: &[u8], b: &[u8]) -> bool
+    ensures { λ r. ⌜ r ≡ sameText (now (a .entry)) (now (b .entry)) ⌝ }
+{
+    if a.len() != b.len() {
+        return false;
+    }
+    let mut i = 0;
+    while i < a.len() {
+        if small(a[i]) != small(b[i]) {
+            return false;
+        }
+        i += 1;
+    }
+    true
+}
+
+// The number of a run of digits, where there are 1 to `most` of them.
+fn counted(size: usize, value: u64, most: usize) -> NumberAt
+    ensures { λ r. ⌜ r ≡ cond (within 1 most size) (record { size = size; value = value }) noNumber ⌝ }
+{
+    if size < 1 {
+        return NO_NUMBER;
+    }
+    if most < size {
+        return NO_NUMBER;
+    }
+    NumberAt { size, value }
+}
+
+// The run of digits at the front, of 1 to `most` digits, with the number that they write, at most `bound`.
+pub fn number(s: &[u8], most: usize, bound: u32) -> NumberAt
+    ensures { λ r. ⌜ (r ≡ number most bound (now (s .entry))) × (r .size ≤ length (now (s .entry))) × (r .value ≤ bound) ⌝ }
+{
+    let limit = bound as u64;
+    let mut value: u64 = 0;
+    let mut i = 0;
+    while i < s.len() {
+        let b = s[i];
+        if b < 48 {
+            return counted(i, value, most);
+        }
+        if 57 < b {
+            return counted(i, value, most);
+        }
+        let digit = (b - 48) as u64;
+        value = value * 10 + digit;
+        // More digits only make it larger, so that it never outgrows a u64.
+        if limit < value {
+            return NO_NUMBER;
+        }
+        i += 1;
+    }
+    counted(i, value, most)
+}
+
+// A hex digit, by comparison: a lent table may say otherwise.
+fn is_hex(b: u8) -> bool
+    ensures { λ r. ⌜ r ≡ isHex b ⌝ }
+{
+    if b < 48 {
+        return false;
+    }
+    if b <= 57 {
+        return true;
+    }
+    if b < 65 {
+        return false;
+    }
+    if b <= 70 {
+        return true;
+    }
+    if b < 97 {
+        return false;
+    }
+    b <= 102
+}
+
+// `%` and two hex digits stand at place i.
+fn escape_at(s: &[u8], i: usize) -> bool
+    ensures { λ r. ⌜ r ≡ escape (drop i (now (s .entry))) ⌝ }
+{
+    if s.len() <= i {
+        return false;
+    }
+    if s.len() - i < 3 {
+        return false;
+    }
+    if s[i] != b'%' {
+        return false;
+    }
+    let high = i + 1;
+    if !is_hex(s[high]) {
+        return false;
+    }
+    let low = i + 2;
+    is_hex(s[low])
+}
+
+// How many of the leading bytes are in a class of the mask, by the table that is lent, or in an escape.
+pub fn run_escaped(table: &[u16; 256], s: &[u8], mask: u16) -> usize
+    ensures { λ r. ⌜ (r ≡ runEscaped (inTable (now (table .entry)) mask) 0 (now (s .entry))) × (r ≤ length (now (s .entry))) ⌝ }
+{
+    let mut i = 0;
+    while i < s.len() {
+        let b = s[i] as usize;
+        if table[b] & mask != 0 {
+            i += 1;
+        } else {
+            if s.len() - i < 3 {
+                return i;
+            }
+            if !escape_at(s, i) {
+                return i;
+            }
+            i += 3;
+        }
+    }
+    i
+}
+
+// The size of the quoted string at the front, with both quotes. 0 where none stands there.
+pub fn quoted(s: &[u8]) -> usize
+    ensures { λ r. ⌜ (r ≡ quoted (now (s .entry))) × (r ≤ length (now (s .entry))) ⌝ }
+{
+    if ahead(s, b'"') < 1 {
+        return 0;
+    }
+    let mut i = 1;
+    while i < s.len() {
+        let b = s[i];
+        if b == b'"' {
+            return i + 1;
+        }
+        if b == b'\\' {
+            let escaped = i + 1;
+            if s.len() <= escaped {
+                return 0;
+            }
+            i += 2;
+        } else {
+            i += 1;
+        }
+    }
+    0
+}
