@@ -1,0 +1,128 @@
+-- Demand 3: what a change leaves as it is, that every message that reads is an original of one, and that both messages read.
+use mathlib.Core.Path.{_≡_, refl, sym, ap, _∙_}
+use mathlib.Core.Bool.{Bool, true, false}
+use mathlib.Core.List.{List, [], _∷_, _++_}
+use mathlib.Core.Option.{Option, none, some}
+use Prim.Native.Nat.{ℕ, _≤_}
+use native.Mathlib.Omega.{arith}
+use lib.Dec.{leb}
+use lib.ListN.{length, drop}
+use borrow.Author.Tests.{leb-true, le-leb}
+use Rattle.sip.specs.Lines.{Start, start, startSize, Field, Header, header}
+use Rattle.sip.specs.Profile.{columnOf, ignored}
+use Rattle.sip.specs.declared.Column.{Column}
+use Rattle.sip.specs.Refusals.{unread, read, lines, kept, judgement}
+use Rattle.sip.specs.Screen.{screened}
+use Rattle.sip.specs.Change.{startBytes, StartShaped, AllShaped, none-left, one-more, headerBytes, Varied, same, unchanged, added, renamed, Changed}
+use Rattle.sip.specs.Promises.{Demand3, ReadAs, Everything, NothingElse}
+use Rattle.sip.proofs.Headers.{header-bytes, header-here}
+use Rattle.sip.proofs.Starts.{start-rest, start-bytes, start-here}
+use Rattle.sip.proofs.Names.{listed-name}
+
+-- ---- the changed fields
+
+varied-shaped : {p : ℕ → Bool} {fs gs : List Field} → Varied p fs gs → AllShaped fs → AllShaped gs
+varied-shaped same none-left = none-left
+varied-shaped (unchanged v) (one-more w h) = one-more w (varied-shaped v h)
+varied-shaped (added w i v) h = one-more w (varied-shaped v h)
+varied-shaped (renamed {n = n} l e v) (one-more w h) =
+    let k = listed-name n (rw e l) in
+    one-more (record { name-long = k .long; name-token = k .token; gap-blank = w .gap-blank; value-ends = w .value-ends }) (varied-shaped v h)
+
+varied-kept : (c : Option Column) {fs gs : List Field} → Varied (ignored c) fs gs → kept c gs ≡ kept c fs
+unfolding kept
+varied-kept c same = refl
+varied-kept c (unchanged v) = rw (varied-kept c v)
+varied-kept c (added w i v) = rw (i, varied-kept c v)
+varied-kept c (renamed l e v) = rw (e, varied-kept c v)
+
+varied-same : (p : ℕ → Bool) (fs : List Field) → Varied p fs fs
+varied-same p [] = same
+varied-same p (f ∷ fs) = unchanged (varied-same p fs)
+
+-- ---- both messages read
+
+module _ (l : Start) (version rest : List ℕ) (w : StartShaped l version) where
+  lines-bytes :
+      (m : List ℕ) (fs : List Field) → AllShaped fs → m ≡ startBytes l version ++ headerBytes fs rest → length m ≤ 8192 → length fs ≤ 96
+      → lines m ≡ read l (record { fields = fs; rest = rest })
+  unfolding lines
+  lines-bytes m fs a e b f =
+      let s : start m ≡ some l = rw e (start-bytes l version (headerBytes fs rest) w) in
+      let d : drop (startSize l) m ≡ headerBytes fs rest = rw e (start-rest l version (headerBytes fs rest) w) in
+      rw (le-leb (length m) 8192 b, s, d, header-bytes fs rest a, le-leb (length fs) 96 f)
+
+pub nothing-else : NothingElse
+nothing-else m m′ c =
+    let reads = lines-bytes (c .line) (c .version) (c .rest) (c .start-shaped) in
+    record {
+      original-reads = reads m (c .fields) (c .all-shaped) (c .original) (c .within-bytes) (c .within-fields);
+      changed-reads = reads m′ (c .fields′) (varied-shaped (c .varied) (c .all-shaped)) (c .changed) (c .within-bytes′) (c .within-fields′);
+    }
+
+-- ---- and are judged alike
+
+alike : (m m′ : List ℕ) → Changed m m′ → judgement m′ ≡ judgement m
+unfolding judgement
+alike m m′ c = let r = nothing-else m m′ c in rw (r .original-reads, r .changed-reads, varied-kept (columnOf (c .line .method) false) (c .varied))
+
+pub demand3 : Demand3
+unfolding screened
+demand3 m m′ side buffer c = rw (alike m m′ c)
+
+-- ---- nothing is left out
+
+unread-read : {A : Type 0} {n : ℕ} {l : Start} {h : Header} → unread n ≡ read l h → A
+unread-read e = let z : _≡_ {A = ℕ} 0 1 = cc in absurd (omega arith)
+
+pub everything : Everything
+unfolding lines
+everything m l h e = go (leb (length m) 8192) (start m) refl refl
+  where
+    -- a message that reads is changed into itself
+    itself : length m ≤ 8192 → start m ≡ some l → header 0 (drop (startSize l) m) ≡ some h → length (h .fields) ≤ 96 → ReadAs m l h
+    itself b p q f =
+        let s = start-here m l p in
+        let a = header-here 0 (drop (startSize l) m) h q in
+        let whole : m ≡ startBytes l (s .version) ++ headerBytes (h .fields) (h .rest) =
+        sym (ap (λ (x : List ℕ). startBytes l (s .version) ++ x) (a .here) ∙ s .here) in
+        record {
+          change =
+              record {
+                line = l;
+                version = s .version;
+                fields = h .fields;
+                fields′ = h .fields;
+                rest = h .rest;
+                start-shaped = s .shaped;
+                all-shaped = a .shaped;
+                varied = varied-same (ignored (columnOf (l .method) false)) (h .fields);
+                original = whole;
+                changed = whole;
+                within-bytes = b;
+                within-bytes′ = b;
+                within-fields = f;
+                within-fields′ = f;
+              };
+          same-line = refl;
+          same-fields = refl;
+          same-rest = refl;
+        }
+
+    fewer : (k : Start) (r : Header) (t : Bool) → leb (length m) 8192 ≡ true → start m ≡ some k → header 0 (drop (startSize k) m) ≡ some r
+        → leb (length (r .fields)) 96 ≡ t → ReadAs m l h
+    fewer k r false b p q f = unread-read (rw (b, p, q, f) at e)
+    fewer k r true b p q f =
+        let i : read k r ≡ read l h = rw (b, p, q, f) at e in
+        let x : k ≡ l = cc in
+        let y : r ≡ h = cc in
+        itself (leb-true (length m) 8192 b) (rw x at p) (rw (x, y) at q) (leb-true (length (h .fields)) 96 (rw y at f))
+
+    header-of : (k : Start) (o : Option Header) → leb (length m) 8192 ≡ true → start m ≡ some k → header 0 (drop (startSize k) m) ≡ o → ReadAs m l h
+    header-of k none b p q = unread-read (rw (b, p, q) at e)
+    header-of k (some r) b p q = fewer k r (leb (length (r .fields)) 96) b p q refl
+
+    go : (t : Bool) (o : Option Start) → leb (length m) 8192 ≡ t → start m ≡ o → ReadAs m l h
+    go false o b p = unread-read (rw b at e)
+    go true none b p = unread-read (rw (b, p) at e)
+    go true (some k) b p = header-of k (header 0 (drop (startSize k) m)) b p refl

@@ -1,0 +1,17 @@
+pub mod Tests
+pub mod Texts
+pub mod ValueSizes
+pub mod Fields
+pub mod Starts
+pub mod Headers
+pub mod Names
+pub mod Change
+pub mod Lengths
+pub mod NameLengths
+pub mod Once
+pub mod Sizes
+pub mod Sent
+pub mod Accepted
+pub mod Growth
+pub mod Starred
+pub mod Useful

@@ -1,0 +1,10 @@
+pub mod Lines
+pub mod Profile
+pub mod Values
+pub mod Refusals
+pub mod Output
+pub mod Screen
+pub mod Change
+pub mod Readings
+pub mod Promises
+pub mod Starred

@@ -1,0 +1,77 @@
+-- Document 01, "Fields and the calling number".
+use mathlib.Core.Bool.{cond}
+use mathlib.Core.List.{List, [], _∷_}
+use mathlib.Core.Option.{Option, none, some}
+use Prim.Native.Nat.{ℕ, zero, suc, _+_}
+use lib.Dec.{eqb}
+use lib.ListN.{length, take, drop}
+use Rattle.octets.specs.Classes.{isGap}
+use Rattle.octets.specs.Scans.{run}
+use Rattle.sip.specs.declared.Span.{Span}
+use Rattle.sip.specs.Lines.{startSize, Field, bytes, trim}
+use Rattle.sip.specs.Profile.{numberOf}
+use Rattle.sip.specs.Values.{isEmpty, identity, isGlobal}
+use Rattle.sip.specs.Refusals.{Lines, unread, read, lines, valueOf, Judgement, refused, accepted, judgement}
+
+abbrev pub noSpan : Span
+noSpan = record { start = 0; len = 0 }
+
+-- a part of a text
+abbrev pub part : Span → List ℕ → List ℕ
+part p s = take (p .len) (drop (p .start) s)
+
+-- the value of a field that starts at place at of the message, "from its first byte that is no space, tab or line break to its last"
+unfoldable pub valueSpan : ℕ → Field → Span
+valueSpan at f =
+    let v = trim isGap (f .value) in
+    cond (isEmpty v) noSpan
+    (record { start = at + length (f .name) + length (f .gap) + 1 + run isGap (f .value); len = length v })
+
+-- the values of the fields of number n, the first of which starts at place at
+unfoldable pub valueSpans : ℕ → ℕ → List Field → List Span
+valueSpans n at [] = []
+valueSpans n at (f ∷ fs) =
+    let others = valueSpans n (at + length (bytes f)) fs in
+    cond (eqb (numberOf (f .name)) n) (valueSpan at f ∷ others) others
+
+abbrev spansOf : ℕ → Lines → List Span
+spansOf n (unread r) = []
+spansOf n (read l h) = cond (eqb n 0) [] (valueSpans n (startSize l) (h .fields))
+
+-- none "where the message has a reason of 2 to 5 or n is not listed"
+unfoldable pub spans : List ℕ → ℕ → List Span
+spans m n = spansOf n (lines m)
+
+-- "For a field number n, a count says how often it occurs."
+unfoldable pub count : List ℕ → ℕ → ℕ
+count m n = length (spans m n)
+
+-- the k-th from 1
+unfoldable pub place : ℕ → List Span → Span
+place k [] = noSpan
+place zero (p ∷ ps) = noSpan
+place (suc zero) (p ∷ ps) = p
+place (suc (suc k)) (p ∷ ps) = place (suc k) ps
+
+-- where the reading stands
+unfoldable pub readingAt : List ℕ → ℕ → ℕ → Span
+readingAt m n k = place k (spans m n)
+
+-- "For n and a place k from 1, a reading hands back the value as a part of the message itself"
+unfoldable pub reading : List ℕ → ℕ → ℕ → List ℕ
+reading m n k = part (readingAt m n k) m
+
+-- ---- the calling number
+
+abbrev identityOr : List ℕ → Option (List ℕ) → List ℕ
+identityOr trunk none = trunk
+identityOr trunk (some v) = identity v
+
+abbrev callerOf : List ℕ → Judgement → List ℕ
+callerOf trunk (refused a) = []
+callerOf trunk (accepted r) = identityOr trunk (valueOf 15 (r .fields))
+
+-- "the P-Asserted-Identity digits with their `+` where the message has that field not ignored, else the trunk number .. It is empty
+-- instead exactly if the trunk number lacks the P-Asserted-Identity form or the message has a reason of 2 to 15 on side 0."
+unfoldable pub callingNumber : List ℕ → List ℕ → List ℕ
+callingNumber m trunk = cond (isGlobal trunk) (callerOf trunk (judgement m)) []

@@ -1,0 +1,112 @@
+-- Document 01, "A call in full": the call, its starred changes, and what each gives.
+use mathlib.Core.Path.{_≡_}
+use mathlib.Core.List.{List, [], _∷_, _++_}
+use Prim.Native.Nat.{ℕ, zero, suc, _-_}
+use Prim.Native.String.{String}
+use lib.ListN.{length}
+use Rattle.octets.specs.Classes.{text}
+use Rattle.causes.specs.Causes.{status, cause}
+use Rattle.sip.specs.Lines.{crlf}
+use Rattle.sip.specs.Refusals.{refusal}
+use Rattle.sip.specs.Screen.{Screened, refusing, sending, screened}
+
+-- "lines end in CRLF, the empty line last"
+unfoldable pub linesOf : List String → List ℕ
+linesOf [] = crlf
+linesOf (l ∷ ls) = text l ++ (crlf ++ linesOf ls)
+
+-- the call with these lines for its start line, Max-Forwards, From, P-Asserted-Identity and Content-Length
+unfoldable pub callWith : String → String → List String → String → String → List ℕ
+callWith line forwards from identity length =
+    linesOf
+    (line ∷ "v: SIP/2.0/UDP relay.example;branch=z9hG4bK7" ∷ forwards
+    ∷ (from ++ ("t: <sip:+33123456789@gw.example>" ∷ "i: 9x@relay.example" ∷ "CSeq: 1 INVITE" ∷ "m: <sip:relay.example>"
+    ∷ "Allow: INVITE, ACK, BYE" ∷ "X-Relay-Mode: text" ∷ identity ∷ "Privacy: id" ∷ length ∷ [])))
+
+abbrev invite : String
+invite = "INVITE sip:+33123456789@gw.example SIP/2.0"
+
+abbrev hops : String
+hops = "Max-Forwards: 70"
+
+abbrev caller : List String
+caller = "f: <sip:+33187654321@relay.example>;tag=a1" ∷ []
+
+abbrev identity : String
+identity = "P-Asserted-Identity: <sip:+33187654321@relay.example>"
+
+abbrev noBody : String
+noBody = "l: 0"
+
+-- the call
+unfoldable pub call : List ℕ
+call = callWith invite hops caller identity noBody
+
+-- what it prints after its numbers, with this start line
+unfoldable pub printed : String → List ℕ
+printed line =
+    linesOf
+    (line ∷ "Via: SIP/2.0/UDP relay.example;branch=z9hG4bK7" ∷ "Max-Forwards: 69"
+    ∷ "From: \"Anonymous\" <sip:anonymous@anonymous.invalid>;tag=a1" ∷ "To: <sip:+33123456789@gw.example>" ∷ "Call-ID: 9x@relay.example"
+    ∷ "CSeq: 1 INVITE" ∷ "Contact: <sip:relay.example>" ∷ "Allow: INVITE, ACK, BYE" ∷ "Privacy: id" ∷ "Content-Length: 0" ∷ [])
+
+-- a buffer of n bytes
+unfoldable pub blankBuffer : ℕ → List ℕ
+blankBuffer zero = []
+blankBuffer (suc n) = 0 ∷ blankBuffer n
+
+-- a row: a message, its side, the buffer, and what it gives; a cause and its status; a status and its cause
+pub data Case : Type 0 where
+  screening : List ℕ → ℕ → List ℕ → Screened → Case
+  causeGives : ℕ → ℕ → Case
+  statusGives : ℕ → ℕ → Case
+
+abbrev pub Holds : Case → Type 0
+Holds (screening m side buffer gives) = screened m side buffer ≡ gives
+Holds (causeGives c s) = status c ≡ record { status = s; refusal = 0 }
+Holds (statusGives s c) = cause s ≡ record { cause = c; refusal = 0 }
+
+-- on side 1, "with a buffer of 9,216 bytes"
+abbrev refuses : List ℕ → ℕ → ℕ → ℕ → ℕ → Case
+refuses m reason reply detail missing = screening m 1 (blankBuffer 9216) (refusing (refusal reason reply detail missing) (blankBuffer 9216))
+
+abbrev sends : List ℕ → List ℕ → Case
+sends m o = screening m 1 (blankBuffer 9216) (sending o (blankBuffer 9216))
+
+abbrev shortest : String
+shortest = "INVITE sip:+3312345@gw.example SIP/2.0"
+
+unfoldable pub starred : List Case
+starred =
+    -- *none
+    sends call (printed invite)
+    -- *empty message: 3
+    ∷ refuses [] 3 0 0 0
+    -- *no fields: 12, detail 1, missing 9
+    ∷ refuses (linesOf (invite ∷ [])) 12 400 1 9
+    -- *empty P-Asserted-Identity: 10, detail 15
+    ∷ refuses (callWith invite hops caller "P-Asserted-Identity:" noBody) 10 400 15 0
+    -- *`From` beside `f`: 9, detail 3
+    ∷ refuses (callWith invite hops (caller ++ ("From: <sip:+33187654321@relay.example>;tag=a1" ∷ [])) identity noBody) 9 400 3 0
+    -- *Max-Forwards 0: 13
+    ∷ refuses (callWith invite "Max-Forwards: 0" caller identity noBody) 13 483 0 0
+    -- *`l: 1`: 11
+    ∷ refuses (callWith invite hops caller identity "l: 1") 11 400 0 0
+    -- *Request-URI user +3312345 accepted
+    ∷ sends (callWith shortest hops caller identity noBody) (printed shortest)
+    -- *+331234: 15
+    ∷ refuses (callWith "INVITE sip:+331234@gw.example SIP/2.0" hops caller identity noBody) 15 484 0 0
+    -- *method INFO: 6
+    ∷ refuses (callWith "INFO sip:+33123456789@gw.example SIP/2.0" hops caller identity noBody) 6 405 0 0
+    -- *tag only inside From's `<>`: 10
+    ∷ refuses (callWith invite hops ("f: <sip:+33187654321@relay.example;tag=a1>" ∷ []) identity noBody) 10 400 3 0
+    -- *cause 26: 480
+    ∷ causeGives 26 480
+    -- *status 606: 127
+    ∷ statusGives 606 127
+    ∷ []
+
+-- every row holds
+pub data AllHold : List Case → Type 0 where
+  no-row : AllHold []
+  row : {c : Case} {cs : List Case} → Holds c → AllHold cs → AllHold (c ∷ cs)

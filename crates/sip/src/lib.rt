@@ -1,0 +1,55 @@
+// The vocabulary of document 01: the types that its definitions (specs/) and the code of the other crates share.
+
+// The six columns of the profile.
+pub enum Column {
+    Invite,
+    Reinvite,
+    Ack,
+    Bye,
+    Cancel,
+    Options,
+}
+
+// A URI at the front of a text: its size with the tail, whether it is a tel URI, how many bytes after `sip:` are the user (0: there is
+// none), and where the tail starts. Size 0: no URI stands there.
+pub struct UriAt {
+    pub size: usize,
+    pub tel: bool,
+    pub user: usize,
+    pub tail: usize,
+}
+
+// An address at the front of a text: its size, and where its URI starts. Size 0: no address stands there.
+pub struct AddressAt {
+    pub size: usize,
+    pub at: usize,
+    pub uri: UriAt,
+}
+
+// A parameter at the front of a text: its size, whether it is the tag, and where its value stands. Size 0: no parameter stands there.
+pub struct ParamAt {
+    pub size: usize,
+    pub tag: bool,
+    pub value: usize,
+    pub len: usize,
+}
+
+// Parameters at the front of a text: their size, and where the tag stands (len 0: there is no tag).
+pub struct ParamsAt {
+    pub size: usize,
+    pub tag: usize,
+    pub len: usize,
+}
+
+// A whole value of From or To: whether it is well formed, and where its tag stands (len 0: there is no tag).
+pub struct PartyAt {
+    pub good: bool,
+    pub tag: usize,
+    pub len: usize,
+}
+
+// A part of a text. An empty part starts at 0.
+pub struct Span {
+    pub start: usize,
+    pub len: usize,
+}
