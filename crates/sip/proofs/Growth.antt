@@ -32,6 +32,6 @@ growth m r masked e = go (lines m) refl
         let body : List ℕ = bodyOf es (h .rest) in
         let a = judged-inv l es (h .rest) r (rw p at e) in
         let i = read-inv m l h p in
-        let lines-fit = lines-bound masked body (h .rest) (columnOf (l .method) false) (h .fields) (a .unrepeated) (i .few) in
-        rw (a .made, length-append (startLine l), length-append (fieldLines masked body es))
+        let lines-fit = lines-bound masked (length body) (h .rest) (columnOf (l .method) false) (h .fields) (a .unrepeated) (i .few) in
+        rw (a .made, length-append (startLine l), length-append (fieldLines masked (length body) es))
         (omega (arith, start-length l, lines-fit, body-le es (h .rest), i .fits))

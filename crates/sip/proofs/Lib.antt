@@ -6,6 +6,7 @@ pub mod Starts
 pub mod Headers
 pub mod Names
 pub mod Change
+pub mod Canonical
 pub mod Lengths
 pub mod NameLengths
 pub mod Once

@@ -35,17 +35,17 @@ room count = 5 * count 2 + 50 * count 3 + 10 * count 8 + 3 * count 9
 abbrev entryOf : Field → Entry
 entryOf f = record { number = numberOf (f .name); value = canonical (f .value) }
 
-module _ (masked : Bool) (body : List ℕ) where
+module _ (masked : Bool) (body : ℕ) where
   sent-le : (e : Entry)
       → length (sentValue masked body e) ≤ length (e .value) + (5 * one 2 (e .number) + 50 * one 3 (e .number) + 5 * one 8 (e .number))
   unfolding sentValue
   sent-le e = go (eqb (e .number) 2) (eqb (e .number) 3) (eqb (e .number) 8) masked
     where
       go : (a b c m : Bool)
-          → length (cond a (numeral (decimal 0 (e .value) - 1)) (cond c (numeral (length body)) (cond (m && b) (anonymous ++ tagOf (e .value)) (e .value))))
+          → length (cond a (numeral (decimal 0 (e .value) - 1)) (cond c (numeral body) (cond (m && b) (anonymous ++ tagOf (e .value)) (e .value))))
           ≤ length (e .value) + (5 * bit a + 50 * bit b + 5 * bit c)
       go true b c m = omega (arith, digits-le 5 (decimal 0 (e .value) - 1))
-      go false b true m = omega (arith, digits-le 5 (length body))
+      go false b true m = omega (arith, digits-le 5 body)
       go false true false true = omega (arith, length-append anonymous (tagOf (e .value)), anonymous-length, tag-le (e .value))
       go false false false true = omega arith
       go false b false false = omega arith

@@ -28,12 +28,12 @@ startLine l = l .method ++ 32 ∷ (l .uri ++ text " SIP/2.0\r\n")
 unfoldable pub anonymous : List ℕ
 anonymous = text "\"Anonymous\" <sip:anonymous@anonymous.invalid>;tag="
 
--- a kept field's value as it goes out: "canonical value"; "Max-Forwards is one less and Content-Length is the body's"; From's where the
--- caller is masked
-unfoldable pub sentValue : Bool → List ℕ → Entry → List ℕ
+-- a kept field's value as it goes out: "canonical value"; "Max-Forwards is one less and Content-Length is the body's", whose
+-- length is told; From's where the caller is masked
+unfoldable pub sentValue : Bool → ℕ → Entry → List ℕ
 sentValue masked body e =
     cond (eqb (e .number) 2) (numeral (decimal 0 (e .value) - 1))
-    (cond (eqb (e .number) 8) (numeral (length body))
+    (cond (eqb (e .number) 8) (numeral body)
     (cond (masked && eqb (e .number) 3) (anonymous ++ tagOf (e .value)) (e .value)))
 
 -- "long name as listed, colon, one space, canonical value, CRLF"
@@ -41,7 +41,7 @@ unfoldable pub line : ℕ → List ℕ → List ℕ
 line n v = nameOf n ++ 58 ∷ 32 ∷ (v ++ crlf)
 
 -- "the fields not ignored in message order"; "P-Asserted-Identity is dropped" where the caller is masked
-unfoldable pub fieldLines : Bool → List ℕ → List Entry → List ℕ
+unfoldable pub fieldLines : Bool → ℕ → List Entry → List ℕ
 fieldLines masked body [] = []
 fieldLines masked body (e ∷ es) =
     let others = fieldLines masked body es in
@@ -49,4 +49,4 @@ fieldLines masked body (e ∷ es) =
 
 -- "Start line, then the fields .., then the empty line and the body." Masked: "On side 1 with the caller withheld"
 unfoldable pub output : Bool → Request → List ℕ
-output masked r = startLine (r .line) ++ (fieldLines masked (r .body) (r .fields) ++ (crlf ++ r .body))
+output masked r = startLine (r .line) ++ (fieldLines masked (length (r .body)) (r .fields) ++ (crlf ++ r .body))

@@ -1,0 +1,130 @@
+-- Laws of `putAt` and `nextAt`, by the test of the room; two puts, one after the other, by the lengths of the parts.
+use mathlib.Core.Path.{_≡_, refl, sym, ap, _∙_}
+use mathlib.Core.Bool.{Bool, true, false}
+use mathlib.Core.List.{List, [], _++_, append-assoc}
+use Prim.Native.Nat.{ℕ, _+_, _≤_, _<_}
+use native.Mathlib.Nat.{add-assoc}
+use native.Mathlib.Omega.{arith}
+use lib.ListN.{length, take, drop, length-append, length-drop, take-append-drop}
+use lib.Seq.{length-take-le, take-at, drop-append-add, drop-drop}
+use borrow.Author.Tests.{le-leb, lt-leb, leb-true, leb-false}
+use lib.Dec.{leb}
+use Rattle.emit.specs.Put.{putAt, nextAt, Wrote}
+
+module _ (d : List ℕ) (at : ℕ) (s : List ℕ) where
+  module _ (h : at + length s ≤ length d) where
+    pub next-room : nextAt d at s ≡ at + length s
+    unfolding nextAt
+    next-room = rw (le-leb (at + length s) (length d) h)
+
+    pub put-room : putAt d at s ≡ take at d ++ (s ++ drop (at + length s) d)
+    unfolding putAt
+    put-room = rw (le-leb (at + length s) (length d) h)
+
+  module _ (h : length d < at + length s) where
+    pub next-full : nextAt d at s ≡ at
+    unfolding nextAt
+    next-full = rw (lt-leb (at + length s) (length d) h)
+
+    pub put-full : putAt d at s ≡ d
+    unfolding putAt
+    put-full = rw (lt-leb (at + length s) (length d) h)
+
+  pub length-put : length (putAt d at s) ≡ length d
+  length-put = go (leb (at + length s) (length d)) refl
+    where
+      go : (t : Bool) → leb (at + length s) (length d) ≡ t → length (putAt d at s) ≡ length d
+      go true e =
+          let h : at + length s ≤ length d = leb-true (at + length s) (length d) e in
+          rw (put-room h, length-append, length-append, length-drop, length-take-le at d (omega arith)) (omega arith)
+      go false e = ap length (put-full (leb-false (at + length s) (length d) e))
+
+-- at the front
+pub put-front : (d s : List ℕ) → length s ≤ length d → putAt d 0 s ≡ s ++ drop (length s) d
+put-front d s h = let z : 0 + length s ≡ length s = omega arith in put-room d 0 s (omega arith) ∙ rw z
+
+-- nothing is put anywhere
+module _ (d : List ℕ) (at : ℕ) where
+  pub next-nil : nextAt d at [] ≡ at
+  next-nil = go (leb (at + 0) (length d)) refl
+    where
+      go : (t : Bool) → leb (at + 0) (length d) ≡ t → nextAt d at [] ≡ at
+      go true e = next-room d at [] (leb-true (at + 0) (length d) e) ∙ omega arith
+      go false e = next-full d at [] (leb-false (at + 0) (length d) e)
+
+  pub put-nil : putAt d at [] ≡ d
+  put-nil = go (leb (at + 0) (length d)) refl
+    where
+      go : (t : Bool) → leb (at + 0) (length d) ≡ t → putAt d at [] ≡ d
+      go true e = let z : at + 0 ≡ at = omega arith in put-room d at [] (leb-true (at + 0) (length d) e) ∙ rw z (take-append-drop at d)
+      go false e = put-full d at [] (leb-false (at + 0) (length d) e)
+
+-- ---- by the answer t whether there is room for n bytes
+
+module _ (d : List ℕ) (at : ℕ) (s : List ℕ) {t : Bool} (n : ℕ) (e : t ≡ leb (at + n) (length d)) (l : n ≡ length s) where
+  tested : t ≡ leb (at + length s) (length d)
+  tested = e ∙ rw l
+
+  pub room-yes : t ≡ true → at + length s ≤ length d
+  room-yes q = leb-true (at + length s) (length d) (sym tested ∙ q)
+
+  pub room-no : t ≡ false → Wrote d at s at d
+  room-no q =
+      let h : length d < at + length s = leb-false (at + length s) (length d) (sym tested ∙ q) in
+      record { next = sym (next-full d at s h); holds = sym (put-full d at s h) }
+
+-- ---- two parts, one after the other
+
+module _ (d : List ℕ) (at : ℕ) (a b : List ℕ) (h : at + (length a + length b) ≤ length d) where
+  first-fits : at + length a ≤ length d
+  first-fits = omega arith
+
+  whole-fits : at + length (a ++ b) ≤ length d
+  whole-fits = rw length-append h
+
+  next-next : nextAt (putAt d at a) (at + length a) b ≡ nextAt d at (a ++ b)
+  next-next =
+      next-room (putAt d at a) (at + length a) b (rw (length-put d at a) (omega arith))
+      ∙ sym (next-room d at (a ++ b) whole-fits ∙ rw length-append (omega arith))
+
+  head-length : length (take at d ++ a) ≡ at + length a
+  head-length = rw (length-append, length-take-le at d (omega arith))
+
+  put-put : putAt (putAt d at a) (at + length a) b ≡ putAt d at (a ++ b)
+  put-put =
+      let r : List ℕ = drop (at + length a) d in
+      let e : putAt d at a ≡ (take at d ++ a) ++ r = put-room d at a first-fits ∙ sym (append-assoc (take at d) a r) in
+      let p : take (at + length a) ((take at d ++ a) ++ r) ≡ take at d ++ a = take-at (take at d ++ a) r (at + length a) head-length in
+      let q : drop (at + length a + length b) ((take at d ++ a) ++ r) ≡ drop (at + length a + length b) d
+      = ap (λ (n : ℕ). drop (n + length b) ((take at d ++ a) ++ r)) (sym head-length)
+      ∙ drop-append-add (take at d ++ a) r (length b) ∙ drop-drop (length b) (at + length a) d in
+      put-room (putAt d at a) (at + length a) b (rw (length-put d at a) (omega arith))
+      ∙ rw (e, p, q, put-room d at (a ++ b) whole-fits, length-append, add-assoc, append-assoc, append-assoc)
+
+-- what is put after a is put with it
+module _ {d : List ℕ} {at : ℕ} {a : List ℕ} {n : ℕ} {d₁ : List ℕ} (w : Wrote d at a n d₁) where
+  module _ (b : List ℕ) (h : at + (length a + length b) ≤ length d) where
+    after : n ≡ at + length a
+    after = w .next ∙ next-room d at a (first-fits d at a b h)
+
+    pub next-after : nextAt d₁ n b ≡ nextAt d at (a ++ b)
+    next-after = rw (after, w .holds) (next-next d at a b h)
+
+    pub put-after : putAt d₁ n b ≡ putAt d at (a ++ b)
+    put-after = rw (after, w .holds) (put-put d at a b h)
+
+  pub then : {b : List ℕ} {r : ℕ} {d₂ : List ℕ} → Wrote d₁ n b r d₂ → at + (length a + length b) ≤ length d → Wrote d at (a ++ b) r d₂
+  then {b} q h = record { next = q .next ∙ next-after b h; holds = q .holds ∙ put-after b h }
+
+  pub wrote-room : at + length a ≤ length d → (n ≡ at + length a) × (d₁ ≡ take at d ++ (a ++ drop (at + length a) d))
+  wrote-room h = (w .next ∙ next-room d at a h, w .holds ∙ put-room d at a h)
+
+  pub wrote-full : length d < at + length a → (n ≡ at) × (d₁ ≡ d)
+  wrote-full h = (w .next ∙ next-full d at a h, w .holds ∙ put-full d at a h)
+
+  pub wrote-length : length d₁ ≡ length d
+  wrote-length = ap length (w .holds) ∙ length-put d at a
+
+  -- the same text, said otherwise
+  pub wrote-as : (b : List ℕ) → a ≡ b → Wrote d at b n d₁
+  wrote-as b e = rw e at w

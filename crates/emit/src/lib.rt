@@ -1,0 +1,208 @@
+// Writes into a lent buffer. A writer that is handed too little room writes nothing.
+ghost use mathlib.Core.Path.{_≡_};
+ghost use mathlib.Core.List.{[], _∷_, _++_};
+ghost use Prim.Native.Nat.{_+_, _/_, _%_, _≤_, _<_};
+ghost use lib.Dec.{leb};
+ghost use lib.ListN.{length, take, drop};
+ghost use Rattle.octets.specs.Classes.{bit, isBreak, isGap};
+ghost use Rattle.sip.specs.Lines.{any, joined, folded};
+ghost use Rattle.sip.specs.Output.{numeral};
+ghost use Rattle.emit.specs.Put.{Wrote};
+
+// A buffer of len bytes has room for size more at the place. No sum is made that could overflow.
+fn has_room(len: usize, at: usize, size: usize) -> bool
+    ensures { λ r. ⌜ r ≡ leb (at + size) len ⌝ }
+{
+    if len < at {
+        return false;
+    }
+    size <= len - at
+}
+
+// Copies s to the place, which has room for it, and returns the place after it.
+fn copy(out: &mut [u8], at: usize, s: &[u8]) -> usize
+    requires { ⌜ at + length (now s) ≤ length (now out) ⌝ }
+    ensures { λ r. ⌜ Wrote (now (out .entry)) at (now (s .entry)) r (now (out .exit)) ⌝ }
+{
+    let mut j = 0;
+    while j < s.len() {
+        out[at + j] = s[j];
+        j += 1;
+    }
+    at + j
+}
+
+// Writes s at the place, and returns the place after it. Where there is no room the buffer and the place stay.
+pub fn put(out: &mut [u8], at: usize, s: &[u8]) -> usize
+    ensures { λ r. ⌜ Wrote (now (out .entry)) at (now (s .entry)) r (now (out .exit)) ⌝ }
+{
+    if has_room(out.len(), at, s.len()) {
+        return copy(out, at, s);
+    }
+    at
+}
+
+// The last digit of a number, as a byte.
+fn digit(n: usize) -> u8
+    ensures { λ r. ⌜ r ≡ 48 + n % 10 ⌝ }
+{
+    (48 + n % 10) as u8
+}
+
+// The last five digits of a number.
+fn five_digits(n: usize) -> [u8; 5]
+    ensures { λ r. ⌜ r ≡ (48 + n / 10000 % 10) ∷ (48 + n / 1000 % 10) ∷ (48 + n / 100 % 10) ∷ (48 + n / 10 % 10) ∷ (48 + n % 10) ∷ [] ⌝ }
+{
+    [
+        digit(n / 10000),
+        digit(n / 1000),
+        digit(n / 100),
+        digit(n / 10),
+        digit(n),
+    ]
+}
+
+// How many bytes `put_number` writes.
+pub fn numeral_len(n: usize) -> usize
+    ensures { λ r. ⌜ r ≡ length (numeral n) ⌝ }
+{
+    if n < 10 {
+        return 1;
+    }
+    if n < 100 {
+        return 2;
+    }
+    if n < 1000 {
+        return 3;
+    }
+    if n < 10000 {
+        return 4;
+    }
+    5
+}
+
+// Writes a number's digits without leading zeros; of a number of more than five digits the last five.
+pub fn put_number(out: &mut [u8], at: usize, n: usize) -> usize
+    ensures { λ r. ⌜ Wrote (now (out .entry)) at (numeral n) r (now (out .exit)) ⌝ }
+{
+    let text = five_digits(n);
+    let zeros = 5 - numeral_len(n);
+    put(out, at, &text[zeros..])
+}
+
+// 1 for a space, a tab or a byte of a line break, else 0.
+fn gap(b: u8) -> usize
+    ensures { λ r. ⌜ r ≡ bit (isGap b) ⌝ }
+{
+    if b == 32 {
+        return 1;
+    }
+    if b == 9 {
+        return 1;
+    }
+    if b == 13 {
+        return 1;
+    }
+    if b == 10 {
+        return 1;
+    }
+    0
+}
+
+// A byte of a line break is among them.
+fn has_break(g: &[u8]) -> bool
+    ensures { λ r. ⌜ r ≡ any isBreak (now (g .entry)) ⌝ }
+{
+    let mut i = 0;
+    while i < g.len() {
+        if g[i] == 13 {
+            return true;
+        }
+        if g[i] == 10 {
+            return true;
+        }
+        i += 1;
+    }
+    false
+}
+
+// How many bytes at the front are alike: a maximal run of gap bytes, or one of other bytes. Either folds by itself.
+fn piece_len(s: &[u8]) -> usize
+    requires { ⌜ 0 < length (now s) ⌝ }
+    ensures { λ r. ⌜
+        (0 < r) × (r ≤ length (now (s .entry)))
+        × (folded 0 (now (s .entry)) ≡ joined (take r (now (s .entry))) ++ folded 0 (drop r (now (s .entry))))
+        ⌝ }
+{
+    let kind = gap(s[0]);
+    let mut n = 1;
+    while n < s.len() {
+        if gap(s[n]) != kind {
+            return n;
+        }
+        n += 1;
+    }
+    n
+}
+
+// How many bytes a piece has once it is joined.
+fn joined_len(g: &[u8]) -> usize
+    ensures { λ r. ⌜ (r ≡ length (joined (now (g .entry)))) × (r ≤ length (now (g .entry))) ⌝ }
+{
+    if has_break(g) {
+        return 1;
+    }
+    g.len()
+}
+
+// How many bytes `put_folded` writes.
+pub fn folded_len(v: &[u8]) -> usize
+    ensures { λ r. ⌜ (r ≡ length (folded 0 (now (v .entry)))) × (r ≤ length (now (v .entry))) ⌝ }
+{
+    let mut size = 0;
+    let mut i = 0;
+    while i < v.len() {
+        let left = octets::rest(v, i);
+        let n = piece_len(left);
+        size += joined_len(octets::first(left, n));
+        i += n;
+    }
+    size
+}
+
+// Writes a piece: one space for a run of gap bytes that holds a line break.
+fn put_joined(out: &mut [u8], at: usize, g: &[u8]) -> usize
+    ensures { λ r. ⌜ Wrote (now (out .entry)) at (joined (now (g .entry))) r (now (out .exit)) ⌝ }
+{
+    if has_break(g) {
+        return put(out, at, b" ");
+    }
+    put(out, at, g)
+}
+
+// Writes v folded, piece by piece, where there is room for the whole.
+fn put_pieces(out: &mut [u8], at: usize, v: &[u8]) -> usize
+    requires { ⌜ at + length (folded 0 (now v)) ≤ length (now out) ⌝ }
+    ensures { λ r. ⌜ Wrote (now (out .entry)) at (folded 0 (now (v .entry))) r (now (out .exit)) ⌝ }
+{
+    let mut o = at;
+    let mut i = 0;
+    while i < v.len() {
+        let left = octets::rest(v, i);
+        let n = piece_len(left);
+        o = put_joined(out, o, octets::first(left, n));
+        i += n;
+    }
+    o
+}
+
+// Writes v with each maximal run of spaces, tabs and line breaks that holds a break as one space, and returns the place after it. Where
+// there is no room the buffer and the place stay.
+pub fn put_folded(out: &mut [u8], at: usize, v: &[u8]) -> usize
+    ensures { λ r. ⌜ Wrote (now (out .entry)) at (folded 0 (now (v .entry))) r (now (out .exit)) ⌝ }
+{
+    if has_room(out.len(), at, folded_len(v)) {
+        return put_pieces(out, at, v);
+    }
+    at
+}

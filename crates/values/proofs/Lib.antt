@@ -1,0 +1,5 @@
+pub mod Runs
+pub mod Within
+pub mod Lists
+pub mod Params
+pub mod Addresses

@@ -1,0 +1,69 @@
+-- One law for each `return`: a quoted string, no token, tokens.
+use mathlib.Core.Path.{_≡_}
+use mathlib.Core.Bool.{_||_}
+use mathlib.Core.List.{List}
+use Prim.Native.Nat.{ℕ, _+_, _<_, _≤_}
+use native.Mathlib.Omega.{arith}
+use lib.ListN.{drop}
+use Rattle.octets.specs.Classes.{isToken, isBlank}
+use Rattle.octets.specs.Scans.{run, quoted}
+use Rattle.sip.specs.Values.{display}
+use Rattle.values.proofs.Within.{is-zero, not-zero}
+use borrow.Author.Needs.{needs}
+use Rattle.values.proofs.address.display.Statement.{statement}
+use Rattle.values.proofs.address.display.Tie as tie
+
+module _ (s : List ℕ) {q : ℕ} (hq : q ≡ quoted s) where
+  quote : 0 < q → {t : List ℕ} → t ≡ drop q s → {b : ℕ} → b ≡ run isBlank t → q + b ≡ display s
+  unfolding display
+  quote z ht hb = rw (← hq, not-zero q (omega arith), ← ht, hb)
+
+  module _ (z : q ≤ 0) {t : ℕ} (ht : t ≡ run isToken s) where
+    none : t < 1 → 0 ≡ display s
+    unfolding display
+    none y = rw (← hq, is-zero q (omega arith), ← ht, is-zero t y)
+
+    words : 1 ≤ t → {n : ℕ} → n ≡ run (λ (c : ℕ). isToken c || isBlank c) s → n ≡ display s
+    unfolding display
+    words y hn = rw (← hq, is-zero q (omega arith), ← ht, not-zero t y, hn)
+
+quoted-requires : tie.Need-quoted-requires
+quoted-requires c κs = search needs
+
+rest-requires : tie.Need-rest-requires
+rest-requires c κs = search needs
+
+blanks-requires : tie.Need-blanks-requires
+blanks-requires c κs = search needs
+
+add-result : tie.Need-add-result
+add-result c = search needs
+
+returns : tie.Need-returns
+returns c = search (quote, arith)
+
+tokens-requires : tie.Need-tokens-requires
+tokens-requires c κs = search needs
+
+returns-2 : tie.Need-returns-2
+returns-2 c = search (none, arith)
+
+names-requires : tie.Need-names-requires
+names-requires c κs = search needs
+
+returns-3 : tie.Need-returns-3
+returns-3 c = search (words, arith)
+
+pub display-spec : {M : Type 1} → statement M
+display-spec =
+    tie.close
+    (tie.spec
+    quoted-requires
+    rest-requires
+    blanks-requires
+    add-result
+    returns
+    tokens-requires
+    returns-2
+    names-requires
+    returns-3)

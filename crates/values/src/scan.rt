@@ -1,0 +1,99 @@
+// Runs of a class by the lent class table, and a byte with blanks around it.
+ghost use mathlib.Core.Path.{_≡_};
+ghost use mathlib.Core.Bool.{not, _||_};
+ghost use Prim.Native.Nat.{ℕ, _≤_};
+ghost use lib.Dec.{eqb};
+ghost use lib.ListN.{length};
+ghost use Rattle.octets.specs.Classes.{classTable, isToken, isBlank, isDigit, isHost, isVisible, isUser, isParameter};
+ghost use Rattle.octets.specs.Scans.{run, runEscaped};
+ghost use Rattle.sip.specs.Values.{sign};
+
+// A token's bytes, and blanks between tokens: what a display name without quotes is made of.
+const NAME: u16 = 3;
+
+pub(crate) fn tokens(table: &[u16; 256], s: &[u8]) -> usize
+    requires { ⌜ now table ≡ classTable ⌝ }
+    ensures { λ r. ⌜ (r ≡ run isToken (now (s .entry))) × (r ≤ length (now (s .entry))) ⌝ }
+{
+    octets::run(table, s, octets::TOKEN)
+}
+
+pub(crate) fn blanks(table: &[u16; 256], s: &[u8]) -> usize
+    requires { ⌜ now table ≡ classTable ⌝ }
+    ensures { λ r. ⌜ (r ≡ run isBlank (now (s .entry))) × (r ≤ length (now (s .entry))) ⌝ }
+{
+    octets::run(table, s, octets::BLANK)
+}
+
+pub(crate) fn digits(table: &[u16; 256], s: &[u8]) -> usize
+    requires { ⌜ now table ≡ classTable ⌝ }
+    ensures { λ r. ⌜ (r ≡ run isDigit (now (s .entry))) × (r ≤ length (now (s .entry))) ⌝ }
+{
+    octets::run(table, s, octets::DIGIT)
+}
+
+pub(crate) fn hosts(table: &[u16; 256], s: &[u8]) -> usize
+    requires { ⌜ now table ≡ classTable ⌝ }
+    ensures { λ r. ⌜ (r ≡ run isHost (now (s .entry))) × (r ≤ length (now (s .entry))) ⌝ }
+{
+    octets::run(table, s, octets::HOST)
+}
+
+pub(crate) fn visible(table: &[u16; 256], s: &[u8]) -> usize
+    requires { ⌜ now table ≡ classTable ⌝ }
+    ensures { λ r. ⌜ (r ≡ run isVisible (now (s .entry))) × (r ≤ length (now (s .entry))) ⌝ }
+{
+    octets::run(table, s, octets::VISIBLE)
+}
+
+// Tokens and blanks, in any order.
+pub(crate) fn names(table: &[u16; 256], s: &[u8]) -> usize
+    requires { ⌜ now table ≡ classTable ⌝ }
+    ensures { λ r. ⌜ (r ≡ run (λ (c : ℕ). isToken c || isBlank c) (now (s .entry))) × (r ≤ length (now (s .entry))) ⌝ }
+{
+    octets::run(table, s, NAME)
+}
+
+// Bytes of a user, or in an escape.
+pub(crate) fn users(table: &[u16; 256], s: &[u8]) -> usize
+    requires { ⌜ now table ≡ classTable ⌝ }
+    ensures { λ r. ⌜ (r ≡ runEscaped isUser 0 (now (s .entry))) × (r ≤ length (now (s .entry))) ⌝ }
+{
+    octets::run_escaped(table, s, octets::USER)
+}
+
+// Bytes of a tail, or in an escape.
+pub(crate) fn parameters(table: &[u16; 256], s: &[u8]) -> usize
+    requires { ⌜ now table ≡ classTable ⌝ }
+    ensures { λ r. ⌜ (r ≡ runEscaped isParameter 0 (now (s .entry))) × (r ≤ length (now (s .entry))) ⌝ }
+{
+    octets::run_escaped(table, s, octets::PARAMETER)
+}
+
+// The byte b with any blanks around it. 0 where it does not stand there.
+pub(crate) fn sign(table: &[u16; 256], b: u8, s: &[u8]) -> usize
+    requires { ⌜ now table ≡ classTable ⌝ }
+    ensures { λ r. ⌜ (r ≡ sign b (now (s .entry))) × (r ≤ length (now (s .entry))) ⌝ }
+{
+    let before = blanks(table, s);
+    if octets::ahead(octets::rest(s, before), b) < 1 {
+        return 0;
+    }
+    let next = before + 1;
+    let after = blanks(table, octets::rest(s, next));
+    next + after
+}
+
+// How many bytes stand before the first b; all where there is none.
+pub(crate) fn until(s: &[u8], b: u8) -> usize
+    ensures { λ r. ⌜ (r ≡ run (λ (c : ℕ). not (eqb c b)) (now (s .entry))) × (r ≤ length (now (s .entry))) ⌝ }
+{
+    let mut size = 0;
+    while size < s.len() {
+        if s[size] == b {
+            return size;
+        }
+        size += 1;
+    }
+    size
+}
