@@ -1,12 +1,13 @@
 // Writes into a lent buffer. A writer that is handed too little room writes nothing.
 ghost use mathlib.Core.Path.{_≡_};
-ghost use mathlib.Core.List.{[], _∷_, _++_};
+ghost use mathlib.Core.List.{[], _∷_};
 ghost use Prim.Native.Nat.{_+_, _/_, _%_, _≤_, _<_};
 ghost use lib.Dec.{leb};
-ghost use lib.ListN.{length, take, drop};
+ghost use lib.ListN.{length};
 ghost use Rattle.octets.specs.Classes.{bit, isBreak, isGap};
-ghost use Rattle.sip.specs.Lines.{any, joined, folded};
+ghost use Rattle.sip.specs.Lines.{any, joined, folded, unfoldedAt};
 ghost use Rattle.sip.specs.Output.{numeral};
+ghost use Rattle.emit.specs.Pieces.{pieceSize};
 ghost use Rattle.emit.specs.Put.{Wrote};
 
 // A buffer of len bytes has room for size more at the place. No sum is made that could overflow.
@@ -129,10 +130,7 @@ fn has_break(g: &[u8]) -> bool
 // How many bytes at the front are alike: a maximal run of gap bytes, or one of other bytes. Either folds by itself.
 fn piece_len(s: &[u8]) -> usize
     requires { ⌜ 0 < length (now s) ⌝ }
-    ensures { λ r. ⌜
-        (0 < r) × (r ≤ length (now (s .entry)))
-        × (folded 0 (now (s .entry)) ≡ joined (take r (now (s .entry))) ++ folded 0 (drop r (now (s .entry))))
-        ⌝ }
+    ensures { λ r. ⌜ (0 < r) × (r ≤ length (now (s .entry))) × (r ≡ pieceSize (now (s .entry))) ⌝ }
 {
     let kind = gap(s[0]);
     let mut n = 1;
@@ -168,6 +166,25 @@ pub fn folded_len(v: &[u8]) -> usize
         i += n;
     }
     size
+}
+
+// Where the k-th byte, from 0, of v folded stands in v; the end of v where there are not so many.
+pub fn unfolded_at(v: &[u8], k: usize) -> usize
+    ensures { λ r. ⌜ (r ≡ unfoldedAt k 0 (now (v .entry))) × (r ≤ length (now (v .entry))) ⌝ }
+{
+    let mut ahead = k;
+    let mut i = 0;
+    while i < v.len() {
+        let left = octets::rest(v, i);
+        let n = piece_len(left);
+        let size = joined_len(octets::first(left, n));
+        if ahead < size {
+            return i + ahead;
+        }
+        ahead -= size;
+        i += n;
+    }
+    i
 }
 
 // Writes a piece: one space for a run of gap bytes that holds a line break.

@@ -1,6 +1,7 @@
 // Byte classes and the scanners that every other reader calls.
 ghost use mathlib.Core.Path.{_≡_};
-ghost use Prim.Native.Nat.{_-_, _≤_, min};
+ghost use Prim.Native.Nat.{_+_, _-_, _≤_, min};
+ghost use lib.Dec.{eqb, ltb};
 ghost use mathlib.Core.Bool.{cond};
 ghost use lib.ListN.{length, take, drop};
 ghost use Rattle.octets.specs.Classes.{within, bit, classTable, inTable, isHex};
@@ -44,19 +45,69 @@ pub fn class_table() -> [u16; 256]
     table::CLASSES
 }
 
-// How many of the leading bytes are in a class of the mask, by the table that is lent.
+// The byte is in a class of the mask, by the table that is lent.
+fn in_class(table: &[u16; 256], b: u8, mask: u16) -> bool
+    ensures { λ r. ⌜ r ≡ inTable (now (table .entry)) mask b ⌝ }
+{
+    let i = b as usize;
+    table[i] & mask != 0
+}
+
+// How many of the four bytes from a place on are in a class of the mask, before the first that is not.
+fn four(table: &[u16; 256], s: &[u8], at: usize, mask: u16) -> usize
+    requires { ⌜ at + 4 ≤ length (now s) ⌝ }
+    ensures { λ r. ⌜ (run (inTable (now (table .entry)) mask) (drop at (now (s .entry))) ≡ r + cond (ltb r 4) 0 (run (inTable (now (table .entry)) mask) (drop (at + 4) (now (s .entry))))) × (r ≤ 4) ⌝ }
+{
+    if !in_class(table, s[at], mask) {
+        return 0;
+    }
+    let second = at + 1;
+    if !in_class(table, s[second], mask) {
+        return 1;
+    }
+    let third = at + 2;
+    if !in_class(table, s[third], mask) {
+        return 2;
+    }
+    let fourth = at + 3;
+    if !in_class(table, s[fourth], mask) {
+        return 3;
+    }
+    4
+}
+
+// Where the run ends that goes on at a place, byte by byte.
+fn run_from(table: &[u16; 256], s: &[u8], at: usize, mask: u16) -> usize
+    requires { ⌜ at ≤ length (now s) ⌝ }
+    ensures { λ r. ⌜ (r ≡ at + run (inTable (now (table .entry)) mask) (drop at (now (s .entry)))) × (r ≤ length (now (s .entry))) ⌝ }
+{
+    let mut i = at;
+    while i < s.len() {
+        if !in_class(table, s[i], mask) {
+            return i;
+        }
+        i += 1;
+    }
+    i
+}
+
+// How many of the leading bytes are in a class of the mask, by the table that is lent. Four bytes a turn: one test of the place for four bytes.
 pub fn run(table: &[u16; 256], s: &[u8], mask: u16) -> usize
     ensures { λ r. ⌜ (r ≡ run (inTable (now (table .entry)) mask) (now (s .entry))) × (r ≤ length (now (s .entry))) ⌝ }
 {
-    let mut size = 0;
-    while size < s.len() {
-        let b = s[size] as usize;
-        if table[b] & mask == 0 {
-            return size;
-        }
-        size += 1;
+    if s.len() < 4 {
+        return run_from(table, s, 0, mask);
     }
-    size
+    let last = s.len() - 3;
+    let mut size = 0;
+    while size < last {
+        let more = four(table, s, size, mask);
+        if more < 4 {
+            return size + more;
+        }
+        size += 4;
+    }
+    run_from(table, s, size, mask)
 }
 
 // What is left after n bytes.
@@ -122,6 +173,16 @@ fn small(b: u8) -> u8
     b + 32
 }
 
+// The same byte, or the same letter in the other case. Most names and tokens are written as they are listed.
+fn alike(x: u8, y: u8) -> bool
+    ensures { λ r. ⌜ r ≡ eqb (lower x) (lower y) ⌝ }
+{
+    if x == y {
+        return true;
+    }
+    small(x) == small(y)
+}
+
 // The two texts have the same bytes in any letter case.
 pub fn same_text(a: &[u8], b: &[u8]) -> bool
     ensures { λ r. ⌜ r ≡ sameText (now (a .entry)) (now (b .entry)) ⌝ }
@@ -131,7 +192,7 @@ pub fn same_text(a: &[u8], b: &[u8]) -> bool
     }
     let mut i = 0;
     while i < a.len() {
-        if small(a[i]) != small(b[i]) {
+        if !alike(a[i], b[i]) {
             return false;
         }
         i += 1;

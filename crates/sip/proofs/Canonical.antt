@@ -36,7 +36,7 @@ folded-run (b ∷ s) = go (isGap b) refl
     go false e = rw (run-no isGap b s e, e)
 
 -- what holds of nothing, stays when a byte that is no gap comes before, and when a run does, holds of every text
-by-runs : (P : List ℕ → Type 0) → P [] → ((b : ℕ) (s : List ℕ) → isGap b ≡ false → P s → P (b ∷ s))
+pub by-runs : (P : List ℕ → Type 0) → P [] → ((b : ℕ) (s : List ℕ) → isGap b ≡ false → P s → P (b ∷ s))
     → ((s : List ℕ) → P (drop (run isGap s) s) → P s) → (s : List ℕ) → P s
 by-runs P none byte gap s = from 0 s
   where
@@ -76,7 +76,7 @@ gap-no b e = go (isBlank b) refl
     go true q = absurd (false≢true (sym (rw q at e)))
     go false q = q
 
-any-first : (p : ℕ → Bool) (b : ℕ) (s : List ℕ) → any p (b ∷ s) ≡ false → (p b ≡ false) × (any p s ≡ false)
+pub any-first : (p : ℕ → Bool) (b : ℕ) (s : List ℕ) → any p (b ∷ s) ≡ false → (p b ≡ false) × (any p s ≡ false)
 unfolding any
 any-first p b s e = go (p b) refl
   where

@@ -16,3 +16,9 @@ pub mod Accepted
 pub mod Growth
 pub mod Starred
 pub mod Useful
+pub mod Unfolded
+pub mod Spans
+pub mod Firsts
+pub mod Addresses
+pub mod Identities
+pub mod Calling

@@ -18,7 +18,7 @@ use Rattle.sip.proofs.Texts.{same-parts, lower-space}
 
 -- ---- from the start line to what is read
 
-version-size : (v : List ℕ) → isVersion v ≡ true → length v ≡ 10
+pub version-size : (v : List ℕ) → isVersion v ≡ true → length v ≡ 10
 unfolding isVersion text
 version-size v e = sym (sameText-length (text " SIP/2.0\r\n") v e)
 
@@ -29,13 +29,13 @@ version-space [] t e = absurd (false≢true e)
 version-space (b ∷ v) t e = run-no isVisible b (v ++ t) (rw (lower-space b (same-parts 32 b (text "SIP/2.0\r\n") v e .0)))
 
 module _ (l : Start) (version t : List ℕ) where
-  whole : startBytes l version ++ t ≡ l .method ++ 32 ∷ (l .uri ++ (version ++ t))
+  pub whole : startBytes l version ++ t ≡ l .method ++ 32 ∷ (l .uri ++ (version ++ t))
   whole = simp append-assoc
 
   after-method : drop (length (l .method)) (startBytes l version ++ t) ≡ 32 ∷ (l .uri ++ (version ++ t))
   after-method = rw whole (drop-append-seam (l .method) _)
 
-  after-space : drop (length (l .method) + 1) (startBytes l version ++ t) ≡ l .uri ++ (version ++ t)
+  pub after-space : drop (length (l .method) + 1) (startBytes l version ++ t) ≡ l .uri ++ (version ++ t)
   after-space = rw (← drop-drop 1 (length (l .method)) (startBytes l version ++ t), after-method)
 
   after-uri : drop (length (l .method) + 1 + length (l .uri)) (startBytes l version ++ t) ≡ version ++ t

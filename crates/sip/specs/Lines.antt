@@ -3,7 +3,7 @@ use mathlib.Core.Bool.{Bool, false, not, cond, _&&_, _||_}
 use mathlib.Core.List.{List, [], _∷_, _++_}
 use mathlib.Core.Option.{Option, none, some}
 use Prim.Native.Nat.{ℕ, zero, suc, _+_, _-_}
-use lib.Dec.{eqb}
+use lib.Dec.{eqb, ltb}
 use lib.ListN.{length, take, drop}
 use Rattle.octets.specs.Classes.{text, within, isToken, isBlank, isBreak, isGap, isValue, isVisible}
 use Rattle.octets.specs.Scans.{run, starts, sameText}
@@ -144,6 +144,17 @@ folded zero (b ∷ s) =
     let gap = joined (take g (b ∷ s)) ++ folded (g - 1) s in
     let other = b ∷ folded zero s in
     cond (isGap b) gap other
+
+-- where the k-th byte, from 0, of the value so folded stands in the value; the first n bytes belong to a run that was joined before them
+unfoldable pub unfoldedAt : ℕ → ℕ → List ℕ → ℕ
+unfoldedAt k n [] = 0
+unfoldedAt k (suc n) (b ∷ s) = suc (unfoldedAt k n s)
+unfoldedAt k zero (b ∷ s) =
+    let g = run isGap (b ∷ s) in
+    let j = length (joined (take g (b ∷ s))) in
+    let gap = suc (unfoldedAt (k - j) (g - 1) s) in
+    let other = suc (unfoldedAt (k - 1) zero s) in
+    cond (isGap b) (cond (ltb k j) k gap) (cond (eqb k 0) 0 other)
 
 abbrev pub unlessLast : (ℕ → Bool) → ℕ → List ℕ → List ℕ
 unlessLast p b [] = cond (p b) [] (b ∷ [])

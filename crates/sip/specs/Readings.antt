@@ -1,5 +1,5 @@
 -- Document 01, "Fields and the calling number".
-use mathlib.Core.Bool.{cond}
+use mathlib.Core.Bool.{true, false, cond}
 use mathlib.Core.List.{List, [], _∷_}
 use mathlib.Core.Option.{Option, none, some}
 use Prim.Native.Nat.{ℕ, zero, suc, _+_}
@@ -8,9 +8,10 @@ use lib.ListN.{length, take, drop}
 use Rattle.octets.specs.Classes.{isGap}
 use Rattle.octets.specs.Scans.{run}
 use Rattle.sip.specs.declared.Span.{Span}
-use Rattle.sip.specs.Lines.{startSize, Field, bytes, trim}
+use Rattle.sip.specs.declared.CallingAt.{CallingAt}
+use Rattle.sip.specs.Lines.{startSize, Field, bytes, trim, unfoldedAt}
 use Rattle.sip.specs.Profile.{numberOf}
-use Rattle.sip.specs.Values.{isEmpty, identity, isGlobal}
+use Rattle.sip.specs.Values.{isEmpty, address, personSize, identity, isGlobal}
 use Rattle.sip.specs.Refusals.{Lines, unread, read, lines, valueOf, Judgement, refused, accepted, judgement}
 
 abbrev pub noSpan : Span
@@ -75,3 +76,32 @@ callerOf trunk (accepted r) = identityOr trunk (valueOf 15 (r .fields))
 -- instead exactly if the trunk number lacks the P-Asserted-Identity form or the message has a reason of 2 to 15 on side 0."
 unfoldable pub callingNumber : List ℕ → List ℕ → List ℕ
 callingNumber m trunk = cond (isGlobal trunk) (callerOf trunk (judgement m)) []
+
+-- ---- the calling number as a part of the message or of the trunk number
+
+abbrev pub noCalling : CallingAt
+noCalling = record { «from_trunk» = false; start = 0; len = 0 }
+
+-- where the number of an identity in its canonical form v stands: p is the part of the message that the value is
+unfoldable pub callerAt : List ℕ → Span → List ℕ → CallingAt
+callerAt m p v =
+    let a = address v in
+    record { «from_trunk» = false; start = p .start + unfoldedAt (a .at + 4) 0 (part p m); len = personSize (a .uri) }
+
+abbrev callerIn : List ℕ → List ℕ → Option (List ℕ) → CallingAt
+callerIn m trunk none = record { «from_trunk» = true; start = 0; len = length trunk }
+callerIn m trunk (some v) = callerAt m (readingAt m 15 1) v
+
+abbrev callingIn : List ℕ → List ℕ → Judgement → CallingAt
+callingIn m trunk (refused a) = noCalling
+callingIn m trunk (accepted r) = callerIn m trunk (valueOf 15 (r .fields))
+
+unfoldable pub callingAt : List ℕ → List ℕ → CallingAt
+callingAt m trunk = cond (isGlobal trunk) (callingIn m trunk (judgement m)) noCalling
+
+-- "hands back a part of one of them"
+unfoldable pub callingPart : List ℕ → List ℕ → List ℕ
+callingPart m trunk =
+    let c = callingAt m trunk in
+    let p : Span = record { start = c .start; len = c .len } in
+    cond (c .«from_trunk») (part p trunk) (part p m)

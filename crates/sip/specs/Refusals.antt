@@ -36,11 +36,11 @@ pub data Lines : Type 0 where
   unread : ℕ → Lines
   read : Start → Header → Lines
 
-abbrev headerLines : Start → Option Header → Lines
+abbrev pub headerLines : Start → Option Header → Lines
 headerLines l none = unread 4
 headerLines l (some h) = cond (leb (length (h .fields)) 96) (read l h) (unread 5)
 
-abbrev startLines : List ℕ → Option Start → Lines
+abbrev pub startLines : List ℕ → Option Start → Lines
 startLines m none = unread 3
 startLines m (some l) = headerLines l (header 0 (drop (startSize l) m))
 

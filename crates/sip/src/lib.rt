@@ -53,3 +53,11 @@ pub struct Span {
     pub start: usize,
     pub len: usize,
 }
+
+// The calling number as a part: whether it is a part of the trunk number or of the message, and where it stands. An empty part starts
+// at 0, and is said to be of the message.
+pub struct CallingAt {
+    pub from_trunk: bool,
+    pub start: usize,
+    pub len: usize,
+}

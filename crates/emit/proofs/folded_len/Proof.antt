@@ -1,11 +1,12 @@
 -- `emit::folded_len` meets its contract. The invariant: the size so far, and that of what is left, folded, are the size of the whole, folded.
 use mathlib.Core.Path.{_≡_, ap, _∙_}
-use mathlib.Core.List.{List, _++_}
+use mathlib.Core.List.{List}
 use Prim.Native.Nat.{ℕ, _+_, _-_, _≤_}
 use native.Mathlib.Omega.{arith}
 use lib.ListN.{length, take, drop, length-append}
 use borrow.Author.Needs.{needs}
 use Rattle.sip.specs.Lines.{joined, folded}
+use Rattle.emit.specs.Pieces.{pieceSize}
 use Rattle.emit.proofs.Pieces.{folded-at, folded-end}
 use Rattle.emit.proofs.folded_len.Statement.{statement}
 use Rattle.emit.proofs.folded_len.Tie as tie
@@ -14,7 +15,7 @@ module _ (v : List ℕ) (size i : ℕ) (e : size + length (folded 0 (drop i v)) 
   finish : length v ≤ i → size ≡ length (folded 0 v)
   finish h = omega (arith, ap length (folded-end v h))
 
-  module _ {t : List ℕ} (left : t ≡ drop i v) (n : ℕ) (cut : folded 0 t ≡ joined (take n t) ++ folded 0 (drop n t)) where
+  module _ {t : List ℕ} (left : t ≡ drop i v) (n : ℕ) (cut : n ≡ pieceSize t) where
     again : {p : List ℕ} {m j z : ℕ} → p ≡ take n t → m ≡ length (joined p) → j ≡ i + n → z ≡ size + m
         → z + length (folded 0 (drop j v)) ≡ length (folded 0 v)
     again {p} {m} {j} {z} a b x y =

@@ -1,16 +1,15 @@
 -- `emit::piece_len` meets its contract. The invariant: the run of bytes that are like the first is n bytes and the run of what is left.
 use mathlib.Core.Path.{_≡_, sym, ap, _∙_}
-use mathlib.Core.List.{List, _++_}
+use mathlib.Core.List.{List}
 use Prim.Native.Nat.{ℕ, _+_, _-_, _≤_, _<_}
 use native.Mathlib.Omega.{arith}
-use lib.ListN.{length, take, drop, getD}
+use lib.ListN.{length, drop, getD}
 use borrow.Author.Needs.{needs}
 use borrow.Author.Tests.{eq-eqb, ne-eqb}
 use Rattle.octets.specs.Classes.{bit, isGap}
 use Rattle.octets.specs.Scans.{run}
 use Rattle.octets.proofs.Runs.{run-at, run-stop, run-end}
-use Rattle.sip.specs.Lines.{joined, folded}
-use Rattle.emit.proofs.Pieces.{like, folded-piece}
+use Rattle.emit.specs.Pieces.{like, pieceSize}
 use Rattle.emit.proofs.piece_len.Statement.{statement}
 use Rattle.emit.proofs.piece_len.Tie as tie
 
@@ -19,14 +18,15 @@ module _ (s : List ℕ) {kind : ℕ} (k : kind ≡ bit (isGap (getD s 0 0))) whe
   begin h z = rw z (omega (arith, run-at (like kind) s 0 h (eq-eqb (bit (isGap (getD s 0 0))) kind (sym k))))
 
   module _ (n : ℕ) (e : run (like kind) s ≡ n + run (like kind) (drop n s)) where
-    whole : n ≡ run (like kind) s → folded 0 s ≡ joined (take n s) ++ folded 0 (drop n s)
-    whole q = folded-piece (isGap (getD s 0 0)) s n (q ∙ ap (λ (i : ℕ). run (like i) s) k)
+    whole : n ≡ run (like kind) s → n ≡ pieceSize s
+    unfolding pieceSize
+    whole q = q ∙ ap (λ (i : ℕ). run (like i) s) k
 
-    ended : length s ≤ n → folded 0 s ≡ joined (take n s) ++ folded 0 (drop n s)
+    ended : length s ≤ n → n ≡ pieceSize s
     ended h = whole (omega (arith, run-end (like kind) s n h))
 
     module _ (h : n < length s) {x : ℕ} (i : x ≡ bit (isGap (getD s n 0))) where
-      differs : (x ≡ kind → ⊥) → folded 0 s ≡ joined (take n s) ++ folded 0 (drop n s)
+      differs : (x ≡ kind → ⊥) → n ≡ pieceSize s
       differs o = whole (omega (arith, run-stop (like kind) s n h (ne-eqb (bit (isGap (getD s n 0))) kind (λ q. o (i ∙ q)))))
 
       again : {m : ℕ} → x ≡ kind → m ≡ n + 1 → run (like kind) s ≡ m + run (like kind) (drop m s)
@@ -34,7 +34,7 @@ module _ (s : List ℕ) {kind : ℕ} (k : kind ≡ bit (isGap (getD s 0 0))) whe
 
 stop : {x kind : ℕ} → (x ≡ kind → ⊥) → (s : List ℕ) (n : ℕ) → kind ≡ bit (isGap (getD s 0 0))
     → run (like kind) s ≡ n + run (like kind) (drop n s) → n < length s → x ≡ bit (isGap (getD s n 0))
-    → folded 0 s ≡ joined (take n s) ++ folded 0 (drop n s)
+    → n ≡ pieceSize s
 stop o s n k e h i = differs s k n e h i o
 
 abbrev Inv-loop : tie.InvT-loop

@@ -8,6 +8,7 @@ use borrow.Author.Needs.{needs}
 use Rattle.sip.specs.Lines.{joined, folded}
 use Rattle.emit.specs.Put.{putAt, nextAt, Wrote}
 use Rattle.emit.proofs.Laws.{next-nil, put-nil, next-after, put-after, wrote-room, wrote-length}
+use Rattle.emit.specs.Pieces.{pieceSize}
 use Rattle.emit.proofs.Pieces.{folded-at, folded-end}
 use Rattle.emit.proofs.put_pieces.Statement.{statement}
 use Rattle.emit.proofs.put_pieces.Tie as tie
@@ -23,7 +24,7 @@ module _ (d : List ℕ) (at : ℕ) (v : List ℕ) (d′ : List ℕ) (o i : ℕ) 
   finish : length v ≤ i → Wrote d at (folded 0 v) o d′
   finish h = rw (folded-end v h, next-nil, put-nil) at (g .wrote)
 
-  module _ {t : List ℕ} (left : t ≡ drop i v) (n : ℕ) (cut : folded 0 t ≡ joined (take n t) ++ folded 0 (drop n t)) where
+  module _ {t : List ℕ} (left : t ≡ drop i v) (n : ℕ) (cut : n ≡ pieceSize t) where
     again : {p : List ℕ} {r j : ℕ} {d″ : List ℕ} → p ≡ take n t → Wrote d′ o (joined p) r d″ → j ≡ i + n → Left d at v d″ r j
     again {p} {r} {j} {d″} a w z =
         let x : List ℕ = folded 0 (drop j v) in

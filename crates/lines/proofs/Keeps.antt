@@ -1,0 +1,71 @@
+-- A slot that is kept or not, by the tests of `keeps`; and the four stores of one.
+use mathlib.Core.Path.{_≡_, sym, ap, _∙_}
+use mathlib.Core.Bool.{Bool, true, false, cond}
+use mathlib.Core.List.{List}
+use Prim.Native.Nat.{ℕ, _+_, _*_, _-_, _≤_, _<_}
+use native.Mathlib.Omega.{arith}
+use lib.ListN.{take, drop, set}
+use borrow.Author.Tests.{eq-eqb, ne-eqb, lt-ltb, le-ltb}
+use Rattle.octets.specs.Classes.{bit, isBreak}
+use Rattle.sip.specs.Lines.{any}
+use Rattle.sip.specs.Profile.{numberOf}
+use Rattle.lines.specs.Index.{noSlot}
+use Rattle.lines.specs.Passes.{slotFor, listedSlot, stored, keeps}
+use Rattle.lines.specs.declared.Slot.{Slot}
+
+module _ (ns : List ℕ) (i : ℕ) (s : Slot) where
+  pub four-stored : {a x y z w : ℕ} → a ≡ 4 * i → x ≡ s .number → y ≡ s .start → z ≡ s .len → w ≡ bit (s .folded)
+      → set (set (set (set ns a x) (a + 1) y) (a + 2) z) (a + 3) w ≡ stored ns i s
+  four-stored a x y z w = rw (a, x, y, z, w)
+
+-- ---- the slot of a field between two places
+
+module _ (m : List ℕ) (v e : ℕ) {p : List ℕ} (hp : p ≡ drop v m) {q : List ℕ} (hq : q ≡ take (e - v) p) where
+  pub value-breaks : {d : Bool} → d ≡ any isBreak (take (e - v) (drop v m)) → d ≡ any isBreak q
+  value-breaks h = h ∙ rw (hq, hp)
+
+module _ (m : List ℕ) (at x v e : ℕ) {a : List ℕ} (ha : a ≡ drop at m) {b : List ℕ} (hb : b ≡ take (x - at) a) {n : ℕ} (hn : n ≡ numberOf b) where
+  number-is : numberOf (take (x - at) (drop at m)) ≡ n
+  number-is = sym (hn ∙ ap numberOf (hb ∙ ap (take (x - at)) ha))
+
+  pub unlisted-slot : n < 1 → noSlot ≡ listedSlot (numberOf (take (x - at) (drop at m))) v (take (e - v) (drop v m))
+  unfolding listedSlot
+  unlisted-slot h = rw (number-is, eq-eqb n 0 (omega arith))
+
+  pub listed-slot : 1 ≤ n → {p : List ℕ} → p ≡ drop v m → {q : List ℕ} → q ≡ take (e - v) p → {r : Slot} → r ≡ slotFor n v q
+      → r ≡ listedSlot (numberOf (take (x - at) (drop at m))) v (take (e - v) (drop v m))
+  unfolding listedSlot
+  listed-slot h hp hq hr = rw (number-is, ne-eqb n 0 (λ z. omega arith)) (hr ∙ rw (hq, hp))
+
+-- ---- the tests of `keeps`
+
+module _ (count : ℕ) (s : Slot) where
+  unlisted : s .number < 1 → keeps count s ≡ false
+  unfolding keeps
+  unlisted h = rw (eq-eqb (s .number) 0 (omega arith))
+
+  full : 1 ≤ s .number → 96 ≤ count → keeps count s ≡ false
+  unfolding keeps
+  full h l = rw (ne-eqb (s .number) 0 (λ z. omega arith), le-ltb count 96 l)
+
+  kept : 1 ≤ s .number → count < 96 → keeps count s ≡ true
+  unfolding keeps
+  kept h l = rw (ne-eqb (s .number) 0 (λ z. omega arith), lt-ltb count 96 l)
+
+  pub unlisted-count : s .number < 1 → count ≡ cond (keeps count s) (count + 1) count
+  unlisted-count h = rw (unlisted h)
+
+  pub unlisted-slots : (ns : List ℕ) → s .number < 1 → ns ≡ cond (keeps count s) (stored ns count s) ns
+  unlisted-slots ns h = rw (unlisted h)
+
+  pub full-count : 1 ≤ s .number → 96 ≤ count → count ≡ cond (keeps count s) (count + 1) count
+  full-count h l = rw (full h l)
+
+  pub full-slots : (ns : List ℕ) → 1 ≤ s .number → 96 ≤ count → ns ≡ cond (keeps count s) (stored ns count s) ns
+  full-slots ns h l = rw (full h l)
+
+  pub kept-count : 1 ≤ s .number → count < 96 → {k : ℕ} → k ≡ count + 1 → k ≡ cond (keeps count s) (count + 1) count
+  kept-count h l e = rw (kept h l) e
+
+  pub kept-slots : (ns : List ℕ) → 1 ≤ s .number → count < 96 → {r : List ℕ} → r ≡ stored ns count s → r ≡ cond (keeps count s) (stored ns count s) ns
+  kept-slots ns h l e = rw (kept h l) e

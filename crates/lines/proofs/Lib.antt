@@ -1,0 +1,13 @@
+pub mod Classes
+pub mod Values
+pub mod Trims
+pub mod Starts
+pub mod Fields
+pub mod Spellings
+pub mod Packs
+pub mod Breaks
+pub mod Counts
+pub mod Keeps
+pub mod Reached
+pub mod Messages
+pub mod Listed

@@ -1,0 +1,274 @@
+-- A pass over the fields: what is stored so far and what the fields from a place on come to are the message. One step is one field.
+use mathlib.Core.Path.{_≡_, refl, sym, ap, _∙_}
+use mathlib.Core.Bool.{Bool, true, false, cond}
+use mathlib.Core.List.{List, [], _∷_, _++_, append-nil}
+use mathlib.Core.Option.{Option, none, some}
+use Prim.Native.Nat.{ℕ, suc, _+_, _-_, _^_, _≤_, _<_}
+use native.Mathlib.Omega.{arith}
+use lib.Dec.{leb, ltb, eqb}
+use lib.ListN.{length, take, drop, length-append, length-drop, drop-of-length-le}
+use lib.Seq.{append-snoc, length-take-le, drop-drop}
+use borrow.Author.Tests.{ltb-true, ltb-false, le-leb, lt-leb}
+use Rattle.octets.specs.Classes.{isBreak}
+use Rattle.sip.specs.Lines.{Start, startSize, startsCRLF, Shape, shape, size, Field, bytes, fieldOf, Header, withField, header, any}
+use Rattle.sip.specs.Profile.{numberOf}
+use Rattle.sip.specs.Refusals.{unread, read, lines}
+use Rattle.sip.specs.Readings.{valueSpan}
+use Rattle.sip.proofs.Fields.{FieldHere, field-here, length-bytes}
+use Rattle.sip.proofs.Headers.{header-next}
+use Rattle.lines.specs.Places.{startAt, fieldAt}
+use Rattle.lines.specs.Index.{slotOf, slotsOf, padded, unreadMessage, messageOf, message, noSlot}
+use Rattle.lines.specs.Passes.{slotFor, listedSlot, stored, keeps, refusedEnd, settled}
+use Rattle.lines.specs.declared.StartAt.the-variants.{Found as StartFound}
+use Rattle.lines.specs.declared.FieldAt.{FieldAt}
+use Rattle.lines.specs.declared.FieldAt.the-variants.{Found, Bad}
+use Rattle.lines.specs.declared.Slot.{Slot}
+use Rattle.lines.specs.declared.Message.{Message}
+use Rattle.lines.specs.declared.header.Ended.{Ended}
+use Rattle.lines.proofs.Values.{never, crlf-room}
+use Rattle.lines.proofs.Starts.{StartRead, start-read}
+use Rattle.lines.proofs.Fields.{FieldRead, field-bad, field-read, field-fits}
+use Rattle.lines.proofs.Packs.{store-next}
+
+-- the message whose fields from place at on are these, with number fields before them, of which done are listed
+abbrev messageFrom : List ℕ → ℕ → ℕ → List Slot → ℕ → ℕ → Option Header → Message
+messageFrom m method uri done number at none = unreadMessage 4
+messageFrom m method uri done number at (some h) =
+    let ss = done ++ slotsOf at (h .fields) in
+    cond (leb (number + length (h .fields)) 96)
+    (record { reason = 0; method = method; uri = uri; rest = length m - length (h .rest); count = length ss; slots = padded ss })
+    (unreadMessage 5)
+
+pub record Reached (m : List ℕ) (method uri number at count : ℕ) (ns : List ℕ) : Type 0 where
+  pub done : List Slot
+  pub held : ns ≡ padded done
+  pub counted : count ≡ length done
+  pub listed : count ≤ number
+  pub same : message m ≡ messageFrom m method uri done number at (header 0 (drop at m))
+
+-- ---- the header at a place
+
+header-done : (s : List ℕ) → startsCRLF s ≡ true → header 0 s ≡ some (record { fields = []; rest = drop 2 s })
+unfolding header startsCRLF
+header-done [] e = never e
+header-done (b ∷ s) e = rw e
+
+header-bad : (s : List ℕ) → startsCRLF s ≡ false → shape s ≡ none → header 0 s ≡ none
+unfolding header
+header-bad [] e q = refl
+header-bad (b ∷ s) e q = rw (e, q)
+
+header-nil : header 0 [] ≡ none
+unfolding header
+header-nil = refl
+
+-- ---- one field more
+
+module _ (m : List ℕ) (method uri : ℕ) (done : List Slot) (number at : ℕ) (f : Field) where
+  abbrev after : ℕ
+  after = at + length (bytes f)
+
+  one-more : (k : ℕ) → number + suc k ≡ number + 1 + k
+  one-more k = omega arith
+
+  step-unlisted : eqb (numberOf (f .name)) 0 ≡ true → (o : Option Header)
+      → messageFrom m method uri done number at (withField f o) ≡ messageFrom m method uri done (number + 1) after o
+  unfolding slotsOf
+  step-unlisted e none = refl
+  step-unlisted e (some h) = rw (e, one-more (length (h .fields)))
+
+  step-kept : eqb (numberOf (f .name)) 0 ≡ false → (o : Option Header)
+      → messageFrom m method uri done number at (withField f o) ≡ messageFrom m method uri (done ++ slotOf at f ∷ []) (number + 1) after o
+  unfolding slotsOf
+  step-kept e none = refl
+  step-kept e (some h) = rw (e, one-more (length (h .fields)), append-snoc done (slotOf at f) (slotsOf after (h .fields)))
+
+  -- more than 96 are refused, whatever is stored of them
+  step-full : 96 ≤ number → (o : Option Header)
+      → messageFrom m method uri done number at (withField f o) ≡ messageFrom m method uri done (number + 1) after o
+  step-full l none = refl
+  step-full l (some h) =
+      rw (lt-leb (number + suc (length (h .fields))) 96 (omega arith), lt-leb (number + 1 + length (h .fields)) 96 (omega arith))
+
+stored-next : (ns : List ℕ) (count : ℕ) (s : Slot) (done : List Slot) (r : Slot) → ns ≡ padded done → count ≡ length done → s ≡ r → count < 96
+    → stored ns count s ≡ padded (done ++ r ∷ [])
+stored-next ns count s done r a b c l = rw (a, c, b) (store-next done r (omega arith))
+
+-- ---- the loop
+
+module _ (m : List ℕ) (method uri at : ℕ) (l : length m ≤ 8192) (r : StartRead m method uri) (p : at ≡ method + uri + 11) where
+  abbrev line : Start
+  line = record { method = take method m; uri = take uri (drop (method + 1) m) }
+
+  method-long : length (take method m) ≡ method
+  method-long = length-take-le method m (omega (arith, r .line-fits))
+
+  uri-long : length (take uri (drop (method + 1) m)) ≡ uri
+  uri-long = length-take-le uri (drop (method + 1) m) (omega (arith, r .line-fits, length-drop (method + 1) m))
+
+  line-long : startSize line ≡ at
+  line-long = omega (arith, method-long, uri-long)
+
+  from-header : (o : Option Header) → header 0 (drop at m) ≡ o → message m ≡ messageFrom m method uri [] 0 at o
+  unfolding message lines
+  from-header none x = rw (le-leb (length m) 8192 l, r .reads, line-long, x)
+  from-header (some h) x =
+      let z : 0 + length (h .fields) ≡ length (h .fields) = omega arith in
+      rw (le-leb (length m) 8192 l, r .reads, line-long, x, z) (few (leb (length (h .fields)) 96))
+    where
+      few : (t : Bool) → messageOf m (cond t (read line h) (unread 5))
+          ≡ cond t
+          (record {
+            reason = 0;
+            method = method;
+            uri = uri;
+            rest = length m - length (h .rest);
+            count = length (slotsOf at (h .fields));
+            slots = padded (slotsOf at (h .fields));
+          })
+          (unreadMessage 5)
+      few true = rw (line-long, method-long, uri-long)
+      few false = refl
+
+pub begin : (m : List ℕ) (method uri : ℕ) → length m ≤ 8192 → startAt m ≡ StartFound method uri → {at : ℕ} → at ≡ method + uri + 11
+    → {ns : List ℕ} → ns ≡ padded [] → Reached m method uri 0 at 0 ns
+begin m method uri l e {at} p {ns} q =
+    record {
+      done = [];
+      held = q;
+      counted = refl;
+      listed = omega arith;
+      same = from-header m method uri at l (start-read m refl e) p (header 0 (drop at m)) refl;
+    }
+
+module _ (m : List ℕ) (method uri number at count : ℕ) (ns : List ℕ) (h : Reached m method uri number at count ns) where
+  -- the bytes are over, with no empty line
+  pub over : length m ≤ at → {x : Ended} → x ≡ refusedEnd 4 → settled method uri x ns ≡ message m
+  unfolding settled
+  over l z = rw z (sym (h .same ∙ rw (drop-of-length-le m l, header-nil)))
+
+  module _ {t : List ℕ} (ht : t ≡ drop at m) {b : Bool} (hb : b ≡ startsCRLF t) where
+    crlf-is : startsCRLF (drop at m) ≡ b
+    crlf-is = sym (hb ∙ ap startsCRLF ht)
+
+    module _ (q : b ≡ true) where
+      at-empty : message m ≡ messageFrom m method uri (h .done) number at (some (record { fields = []; rest = drop 2 (drop at m) }))
+      at-empty = h .same ∙ ap (messageFrom m method uri (h .done) number at) (header-done (drop at m) (crlf-is ∙ q))
+
+      pub many : 96 < number → {x : Ended} → x ≡ refusedEnd 5 → settled method uri x ns ≡ message m
+      unfolding settled
+      many l z = rw z (sym (at-empty ∙ rw (lt-leb (number + 0) 96 (omega arith))))
+
+      pub ends : number ≤ 96 → {k : ℕ} → k ≡ at + 2 → settled method uri (record { reason = 0; rest = k; count = count }) ns ≡ message m
+      unfolding settled slotsOf
+      ends l {k} z =
+          let room : 2 ≤ length (drop at m) = crlf-room (drop at m) (crlf-is ∙ q) in
+          let w : length m - length (drop 2 (drop at m)) ≡ k = omega (arith, length-drop 2 (drop at m), length-drop at m) in
+          sym (at-empty ∙ rw (le-leb (number + 0) 96 (omega arith), w, append-nil (h .done), ← h .held, ← h .counted))
+
+    module _ (n : b ≡ false) {r : FieldAt} (hr : r ≡ fieldAt m at) where
+      pub bad : r ≡ Bad → {x : Ended} → x ≡ refusedEnd 4 → settled method uri x ns ≡ message m
+      unfolding settled
+      bad q z = rw z (sym (h .same ∙ rw (header-bad (drop at m) (crlf-is ∙ n) (field-bad m at hr q))))
+
+      module _ {x v e : ℕ} {d : Bool} (q : r ≡ Found x v e d) where
+        found : FieldRead m at x v e d
+        found = field-read m at hr q
+
+        pub name-after : at ≤ x
+        name-after = omega (arith, field-fits m at hr q)
+
+        pub value-before : v ≤ e
+        value-before = omega (arith, field-fits m at hr q)
+
+        pub end-within : length m ≤ 8192 → e ≤ 8192
+        end-within l = omega (arith, field-fits m at hr q)
+
+        pub next-small : length m ≤ 8192 → {k : ℕ} → k ≡ e + 2 → k < 2 ^ 64
+        next-small l z = omega (arith, field-fits m at hr q)
+
+        pub next-within : {k : ℕ} → k ≡ e + 2 → k ≤ length m
+        next-within z = omega (arith, field-fits m at hr q)
+
+        pub next-less : {k : ℕ} → k ≡ e + 2 → length m - k < length m - at
+        next-less z = omega (arith, field-fits m at hr q)
+
+        pub next-few : number ≤ at → {j k : ℕ} → j ≡ number + 1 → k ≡ e + 2 → j ≤ k
+        next-few l y z = omega (arith, field-fits m at hr q)
+
+        value-long : e - v ≡ found .parts .value
+        value-long = omega (arith, found)
+
+        pub value-folded : d ≡ any isBreak (take (e - v) (drop v m))
+        value-folded = found .folded-is ∙ rw value-long
+
+        abbrev the : Field
+        the = fieldOf (found .parts) (drop at m)
+
+        here : FieldHere (drop at m) (found .parts)
+        here = field-here (drop at m) (found .parts) (found .reads)
+
+        bytes-long : {k : ℕ} → k ≡ e + 2 → at + length (bytes the) ≡ k
+        bytes-long z = omega (arith, found, length-bytes the, ap size (here .sizes))
+
+        value-at : at + length (the .name) + length (the .gap) + 1 ≡ v
+        value-at = omega (arith, found, ap (λ (y : Shape). y .name) (here .sizes), ap (λ (y : Shape). y .gap) (here .sizes))
+
+        slot-is : listedSlot (numberOf (take (x - at) (drop at m))) v (take (e - v) (drop v m)) ≡ cond (eqb (numberOf (the .name)) 0) noSlot (slotOf at the)
+        unfolding listedSlot slotFor slotOf valueSpan
+        slot-is =
+            let a : x - at ≡ found .parts .name = omega (arith, found) in
+            let b : at + (found .parts .name + found .parts .gap + 1) ≡ v = omega (arith, found) in
+            rw (value-at, a, value-long, drop-drop (found .parts .name + found .parts .gap + 1) at m, b)
+
+        header-is : {k : ℕ} → k ≡ e + 2 → header 0 (drop at m) ≡ withField the (header 0 (drop k m))
+        header-is {k} z =
+            let y : at + size (found .parts) ≡ k = omega (arith, found) in
+            header-next (drop at m) (found .parts) (crlf-is ∙ n) (found .reads) ∙ rw (drop-drop (size (found .parts)) at m, y)
+
+        module _ {s : Slot} (hs : s ≡ listedSlot (numberOf (take (x - at) (drop at m))) v (take (e - v) (drop v m)))
+            {c : ℕ} (hc : c ≡ cond (keeps count s) (count + 1) count) {ns′ : List ℕ} (hn : ns′ ≡ cond (keeps count s) (stored ns count s) ns)
+            {j : ℕ} (hj : j ≡ number + 1) {k : ℕ} (hk : k ≡ e + 2) where
+          from : message m ≡ messageFrom m method uri (h .done) number at (withField the (header 0 (drop k m)))
+          from = h .same ∙ ap (messageFrom m method uri (h .done) number at) (header-is hk)
+
+          -- what is stored stays
+          stays : keeps count s ≡ false
+              → messageFrom m method uri (h .done) number at (withField the (header 0 (drop k m)))
+              ≡ messageFrom m method uri (h .done) (number + 1) (at + length (bytes the)) (header 0 (drop k m))
+              → Reached m method uri j k c ns′
+          stays y w =
+              let cs : c ≡ count = hc ∙ rw y in
+              record {
+                done = h .done;
+                held = hn ∙ rw y (h .held);
+                counted = cs ∙ h .counted;
+                listed = omega (arith, h .listed);
+                same = from ∙ w ∙ rw (bytes-long hk, hj);
+              }
+
+          grows : keeps count s ≡ true → s ≡ slotOf at the → eqb (numberOf (the .name)) 0 ≡ false → count < 96 → Reached m method uri j k c ns′
+          grows y w z l =
+              let cs : c ≡ count + 1 = hc ∙ rw y in
+              record {
+                done = h .done ++ slotOf at the ∷ [];
+                held = hn ∙ rw y (stored-next ns count s (h .done) (slotOf at the) (h .held) (h .counted) w l);
+                counted = omega (arith, length-append (h .done) (slotOf at the ∷ []), h .counted);
+                listed = omega (arith, h .listed);
+                same = from ∙ step-kept m method uri (h .done) number at the z (header 0 (drop k m)) ∙ rw (bytes-long hk, hj);
+              }
+
+          pub next : Reached m method uri j k c ns′
+          unfolding keeps slotOf
+          next = go (eqb (numberOf (the .name)) 0) (ltb count 96) refl refl
+            where
+              go : (t u : Bool) → eqb (numberOf (the .name)) 0 ≡ t → ltb count 96 ≡ u → Reached m method uri j k c ns′
+              go true u y z =
+                  let w : s ≡ noSlot = hs ∙ slot-is ∙ rw y in
+                  stays (rw w) (step-unlisted m method uri (h .done) number at the y (header 0 (drop k m)))
+              go false true y z =
+                  let w : s ≡ slotOf at the = hs ∙ slot-is ∙ rw y in
+                  grows (rw (w, y, z)) w y (ltb-true count 96 z)
+              go false false y z =
+                  let w : s ≡ slotOf at the = hs ∙ slot-is ∙ rw y in
+                  stays (rw (w, y, z)) (step-full m method uri (h .done) number at the (omega (arith, ltb-false count 96 z, h .listed)) (header 0 (drop k m)))

@@ -1,0 +1,79 @@
+-- Laws of `trimEnd`, by induction on the text before its last byte; and of the part of a value that is left.
+use mathlib.Core.Path.{_≡_, refl, sym, ap, _∙_}
+use mathlib.Core.Bool.{Bool, true, false, not, cond}
+use mathlib.Core.List.{List, [], _∷_, _++_}
+use Prim.Native.Nat.{ℕ, suc, _-_, _≤_, _<_}
+use native.Mathlib.Omega.{arith}
+use lib.ListN.{length, take, drop, getD}
+use lib.Seq.{take-length, take-suc, length-take-le}
+use borrow.Author.Tests.{not-true, not-false}
+use Rattle.octets.specs.Classes.{isGap}
+use Rattle.octets.specs.Scans.{run}
+use Rattle.sip.specs.Lines.{unlessLast, trimEnd, trim}
+use Rattle.sip.specs.Readings.{noSpan}
+use Rattle.sip.specs.Values.{isEmpty}
+use Rattle.lines.specs.Sizes.{valuePart}
+
+module _ (p : ℕ → Bool) where
+  last-goes : (xs : List ℕ) (b : ℕ) → p b ≡ true → trimEnd p (xs ++ b ∷ []) ≡ trimEnd p xs
+  unfolding trimEnd
+  last-goes [] b e = rw e
+  last-goes (x ∷ xs) b e = ap (unlessLast p x) (last-goes xs b e)
+
+  before-last : (x : ℕ) (xs : List ℕ) (b : ℕ) → unlessLast p x (xs ++ b ∷ []) ≡ x ∷ xs ++ b ∷ []
+  before-last x [] b = refl
+  before-last x (y ∷ xs) b = refl
+
+  last-stays : (xs : List ℕ) (b : ℕ) → p b ≡ false → trimEnd p (xs ++ b ∷ []) ≡ xs ++ b ∷ []
+  unfolding trimEnd
+  last-stays [] b e = rw e
+  last-stays (x ∷ xs) b e = ap (unlessLast p x) (last-stays xs b e) ∙ before-last x xs b
+
+-- ---- a loop from the end: up to `end` the text is looked at still
+
+module _ (s : List ℕ) where
+  pub all-left : trimEnd isGap s ≡ trimEnd isGap (take (length s) s)
+  all-left = rw (take-length s)
+
+  module _ {end : ℕ} (e : trimEnd isGap s ≡ trimEnd isGap (take end s)) where
+    pub none-left : end ≤ 0 → 0 ≡ length (trimEnd isGap s)
+    unfolding trimEnd
+    none-left h = let z : end ≡ 0 = omega arith in rw (e, z)
+
+    module _ {last : ℕ} (h : end ≤ length s) (k : 0 < end) (hl : last ≡ end - 1) {g : Bool} (hg : g ≡ isGap (getD s last 0)) where
+      with-last : take end s ≡ take last s ++ getD s last 0 ∷ []
+      with-last = let z : end ≡ suc last = omega arith in rw z (take-suc s last 0 (omega arith))
+
+      pub no-gap : not g ≡ true → end ≡ length (trimEnd isGap s)
+      no-gap q =
+          let f : isGap (getD s last 0) ≡ false = sym hg ∙ not-true g q in
+          let i : trimEnd isGap s ≡ take end s = e ∙ rw with-last (last-stays isGap (take last s) (getD s last 0) f) in
+          rw i (sym (length-take-le end s h))
+
+      pub a-gap : not g ≡ false → trimEnd isGap s ≡ trimEnd isGap (take last s)
+      a-gap q =
+          let f : isGap (getD s last 0) ≡ true = sym hg ∙ not-false g q in
+          e ∙ rw with-last (last-goes isGap (take last s) (getD s last 0) f)
+
+-- ---- the part of a value
+
+module _ (s : List ℕ) {n : ℕ} (hn : n ≡ run isGap s) {t : List ℕ} (ht : t ≡ drop n s) {l : ℕ} (hl : l ≡ length (trimEnd isGap t)) where
+  trim-is : trim isGap s ≡ trimEnd isGap t
+  unfolding trim
+  trim-is = rw (← hn, ← ht)
+
+  pub no-part : l < 1 → noSpan ≡ valuePart s
+  unfolding valuePart isEmpty
+  no-part h = rw trim-is (go (trimEnd isGap t) (omega arith))
+    where
+      go : (v : List ℕ) → length v ≡ 0 → noSpan ≡ cond (isEmpty v) noSpan (record { start = run isGap s; len = length v })
+      go [] z = refl
+      go (b ∷ v) z = absurd (omega arith)
+
+  pub a-part : 1 ≤ l → record { start = n; len = l } ≡ valuePart s
+  unfolding valuePart isEmpty
+  a-part h = rw (trim-is, hn, hl) (go (trimEnd isGap t) (omega arith))
+    where
+      go : (v : List ℕ) → 1 ≤ length v → record { start = run isGap s; len = length v } ≡ cond (isEmpty v) noSpan (record { start = run isGap s; len = length v })
+      go [] z = absurd (omega arith)
+      go (b ∷ v) z = refl

@@ -1,0 +1,245 @@
+-- Laws of `valueSize`: value bytes are passed over by one run, by induction on the text; after the run, by what stands there.
+use mathlib.Core.Path.{_≡_, refl, sym, ap, _∙_}
+use mathlib.Core.Bool.{Bool, true, false, not, cond, _&&_, and-eq-true-iff}
+use mathlib.Core.List.{List, [], _∷_}
+use mathlib.Core.Option.{Option, none, some}
+use Prim.Native.Nat.{ℕ, zero, suc, _+_, _-_, _≤_, _<_}
+use native.Mathlib.Omega.{arith}
+use lib.Dec.{eqb}
+use lib.ListN.{length, drop, length-drop}
+use lib.Seq.{drop-drop}
+use borrow.Author.Tests.{eqb-true, eqb-false, eq-eqb, ne-eqb, not-true, not-false}
+use Rattle.octets.specs.Classes.{isBlank, isBreak, isValue}
+use Rattle.octets.specs.Scans.{run}
+use Rattle.octets.proofs.Runs.{run-nil, run-yes, run-no, run-le, run-after}
+use Rattle.sip.specs.Lines.{startsCRLF, startsBlank, more, valueSize, any}
+use Rattle.lines.specs.Places.{breaks}
+use Rattle.lines.specs.Sizes.{endedSize}
+
+pub never : {A : Type 0} → false ≡ true → A
+never e = let z : _≡_ {A = ℕ} 0 1 = cc in absurd (omega arith)
+
+nothing : {A : Type 0} {n : ℕ} → _≡_ {A = Option ℕ} none (some n) → A
+nothing e = let z : _≡_ {A = ℕ} 0 1 = cc in absurd (omega arith)
+
+-- ---- a value byte is no byte of a line break
+
+not-break : (b : ℕ) → isValue b ≡ true → (eqb b 13 ≡ false) × (eqb b 10 ≡ false)
+unfolding isValue
+not-break b v = (ne-eqb b 13 (λ z. never (rw z at v)), ne-eqb b 10 (λ z. never (rw z at v)))
+
+no-crlf : (b : ℕ) (s : List ℕ) → isValue b ≡ true → startsCRLF (b ∷ s) ≡ false
+unfolding startsCRLF
+no-crlf b [] v = refl
+no-crlf b (c ∷ s) v = rw (not-break b v .0)
+
+-- ---- sizes with bytes before them
+
+abbrev pub plus : ℕ → Option ℕ → Option ℕ
+plus n none = none
+plus n (some m) = some (n + m)
+
+plus-zero : (o : Option ℕ) → plus 0 o ≡ o
+plus-zero none = refl
+plus-zero (some m) = ap some (omega arith)
+
+more-plus : (n : ℕ) (o : Option ℕ) → more (plus n o) ≡ plus (suc n) o
+more-plus n none = refl
+more-plus n (some m) = ap some (omega arith)
+
+plus-plus : (n m : ℕ) (o : Option ℕ) → plus n (plus m o) ≡ plus (n + m) o
+plus-plus n m none = refl
+plus-plus n m (some k) = ap some (omega arith)
+
+more-inv : (o : Option ℕ) {n : ℕ} → more o ≡ some n → (m : ℕ) × (o ≡ some m) × (n ≡ suc m)
+more-inv none e = nothing e
+more-inv (some m) e = (m, refl, cc)
+
+-- ---- value bytes
+
+value-byte : (b : ℕ) (s : List ℕ) → isValue b ≡ true → valueSize 0 (b ∷ s) ≡ more (valueSize 0 s)
+unfolding valueSize
+value-byte b s v = rw (no-crlf b s v, v)
+
+pub past-line : (s : List ℕ) → valueSize 0 s ≡ plus (run isValue s) (valueSize 0 (drop (run isValue s) s))
+past-line [] = rw (run-nil isValue) (sym (plus-zero (valueSize 0 [])))
+past-line (b ∷ s) = go (isValue b) refl (past-line s)
+  where
+    go : (t : Bool) → isValue b ≡ t → valueSize 0 s ≡ plus (run isValue s) (valueSize 0 (drop (run isValue s) s))
+        → valueSize 0 (b ∷ s) ≡ plus (run isValue (b ∷ s)) (valueSize 0 (drop (run isValue (b ∷ s)) (b ∷ s)))
+    go true e f =
+        rw (run-yes isValue b s e) (value-byte b s e ∙ ap more f ∙ more-plus (run isValue s) (valueSize 0 (drop (run isValue s) s)))
+    go false e f = rw (run-no isValue b s e) (sym (plus-zero (valueSize 0 (b ∷ s))))
+
+-- ---- after the value bytes of a line
+
+abbrev pub isFold : List ℕ → Bool
+isFold t = startsCRLF t && startsBlank (drop 2 t)
+
+pub fold-room : (t : List ℕ) → isFold t ≡ true → 3 ≤ length t
+unfolding startsCRLF startsBlank
+fold-room [] e = never e
+fold-room (a ∷ []) e = never e
+fold-room (a ∷ b ∷ []) e = let f = and-eq-true-iff (eqb a 13 && eqb b 10) false .0 e in never (f .1)
+fold-room (a ∷ b ∷ c ∷ t) e = omega arith
+
+pub fold-size : (t : List ℕ) → isFold t ≡ true → valueSize 0 t ≡ plus 3 (valueSize 0 (drop 3 t))
+unfolding valueSize startsCRLF startsBlank
+fold-size [] e = never e
+fold-size (a ∷ []) e = never e
+fold-size (a ∷ b ∷ []) e = let f = and-eq-true-iff (eqb a 13 && eqb b 10) false .0 e in never (f .1)
+fold-size (a ∷ b ∷ c ∷ t) e =
+    let f = and-eq-true-iff (eqb a 13 && eqb b 10) (isBlank c) .0 e in
+    rw (f .0, f .1) (three (valueSize 0 t))
+  where
+    three : (o : Option ℕ) → more (more (more o)) ≡ plus 3 o
+    three none = refl
+    three (some n) = ap some (omega arith)
+
+pub crlf-room : (t : List ℕ) → startsCRLF t ≡ true → 2 ≤ length t
+unfolding startsCRLF
+crlf-room [] e = never e
+crlf-room (a ∷ []) e = never e
+crlf-room (a ∷ b ∷ t) e = omega arith
+
+pub end-size : (t : List ℕ) → isFold t ≡ false → startsCRLF t ≡ true → valueSize 0 t ≡ some 0
+unfolding valueSize
+end-size [] n e = absurd (omega (arith, crlf-room [] e))
+end-size (a ∷ t) n e = let f : startsBlank (drop 2 (a ∷ t)) ≡ false = rw e at n in rw (e, f)
+
+pub bad-size : (t : List ℕ) → run isValue t ≡ 0 → startsCRLF t ≡ false → valueSize 0 t ≡ none
+unfolding valueSize
+bad-size [] z n = refl
+bad-size (a ∷ t) z n = go (isValue a) refl
+  where
+    go : (u : Bool) → isValue a ≡ u → valueSize 0 (a ∷ t) ≡ none
+    go true v = absurd (omega (arith, run-yes isValue a t v))
+    go false v = rw (n, v)
+
+-- ---- a value, and the CRLF that ends it, are part of the text
+
+pub value-fits : (k : ℕ) (s : List ℕ) {n : ℕ} → valueSize k s ≡ some n → n + 2 ≤ length s
+unfolding valueSize
+value-fits k [] e = nothing e
+value-fits (suc k) (b ∷ s) e = let (m, y, z) = more-inv (valueSize k s) e in omega (arith, value-fits k s y)
+value-fits zero (b ∷ s) {n} e =
+    go (startsCRLF (b ∷ s)) (startsBlank (drop 2 (b ∷ s))) (isValue b) refl e (λ m y. value-fits 2 s y) (λ m y. value-fits 0 s y)
+  where
+    go : (c f v : Bool) → startsCRLF (b ∷ s) ≡ c → cond c (cond f (more (valueSize 2 s)) (some 0)) (cond v (more (valueSize 0 s)) none) ≡ some n
+        → ((m : ℕ) → valueSize 2 s ≡ some m → m + 2 ≤ length s) → ((m : ℕ) → valueSize 0 s ≡ some m → m + 2 ≤ length s)
+        → n + 2 ≤ length (b ∷ s)
+    go true true v c e x y = let (m, w, z) = more-inv (valueSize 2 s) e in omega (arith, x m w)
+    go true false v c e x y = let z : n ≡ 0 = cc in omega (arith, crlf-room (b ∷ s) c)
+    go false f true c e x y = let (m, w, z) = more-inv (valueSize 0 s) e in omega (arith, y m w)
+    go false f false c e x y = nothing e
+
+-- ---- a line break stands in a value exactly if more than its first line belongs to it
+
+crlf-first : (b : ℕ) (s : List ℕ) → startsCRLF (b ∷ s) ≡ true → b ≡ 13
+unfolding startsCRLF
+crlf-first b [] e = never e
+crlf-first b (c ∷ s) e = eqb-true b 13 (and-eq-true-iff (eqb b 13) (eqb c 10) .0 e .0)
+
+pub eqb-suc : (a b : ℕ) → eqb (suc a) (suc b) ≡ eqb a b
+eqb-suc a b = go (eqb a b) refl
+  where
+    go : (t : Bool) → eqb a b ≡ t → eqb (suc a) (suc b) ≡ t
+    go true e = eq-eqb (suc a) (suc b) (ap suc (eqb-true a b e))
+    go false e = ne-eqb (suc a) (suc b) (λ z. eqb-false a b e (omega arith))
+
+broken : (b : ℕ) (s : List ℕ) (m n : ℕ) → n ≡ suc m → b ≡ 13 → breaks n (b ∷ s) ≡ not (eqb n 0)
+unfolding any isBreak
+broken b s m n z p = rw (z, p, ne-eqb (suc m) 0 (λ w. omega arith))
+
+passed : (b : ℕ) (s : List ℕ) (m n : ℕ) → n ≡ suc m → isValue b ≡ true → breaks m s ≡ not (eqb m (run isValue s))
+    → breaks n (b ∷ s) ≡ not (eqb n (run isValue (b ∷ s)))
+unfolding any isBreak
+passed b s m n z v f = rw (z, run-yes isValue b s v, eqb-suc m (run isValue s), not-break b v .0, not-break b v .1) f
+
+pub value-breaks : (s : List ℕ) (n : ℕ) → valueSize 0 s ≡ some n → breaks n s ≡ not (eqb n (run isValue s))
+unfolding any valueSize
+value-breaks [] n e = nothing e
+value-breaks (b ∷ s) n e = go (isValue b) refl (value-breaks s)
+  where
+    line : (c f : Bool) → isValue b ≡ false → startsCRLF (b ∷ s) ≡ c → startsBlank (drop 2 (b ∷ s)) ≡ f → breaks n (b ∷ s) ≡ not (eqb n 0)
+    line true true v p q =
+        let x : more (valueSize 2 s) ≡ some n = rw (p, q) at e in
+        let (m, y, z) = more-inv (valueSize 2 s) x in
+        broken b s m n z (crlf-first b s p)
+    line true false v p q = let x : _≡_ {A = Option ℕ} (some 0) (some n) = rw (p, q) at e in let z : n ≡ 0 = cc in rw z
+    line false f v p q = nothing (rw (p, v) at e)
+
+    go : (t : Bool) → isValue b ≡ t → ((m : ℕ) → valueSize 0 s ≡ some m → breaks m s ≡ not (eqb m (run isValue s)))
+        → breaks n (b ∷ s) ≡ not (eqb n (run isValue (b ∷ s)))
+    go true v f = let (m, y, z) = more-inv (valueSize 0 s) (sym (value-byte b s v) ∙ e) in passed b s m n z v (f m y)
+    go false v f = rw (run-no isValue b s v) (line (startsCRLF (b ∷ s)) (startsBlank (drop 2 (b ∷ s))) v refl refl)
+
+-- ---- a loop over the lines of a value: up to place `end` they are read
+
+module _ (s : List ℕ) where
+  pub line-read : {end : ℕ} → end ≡ run isValue s → valueSize 0 s ≡ plus end (valueSize 0 (drop end s))
+  line-read h = rw h (past-line s)
+
+  pub line-within : {end : ℕ} → end ≡ run isValue s → end ≤ length s
+  line-within h = omega (arith, run-le isValue s)
+
+  pub line-over : {end : ℕ} → end ≡ run isValue s → run isValue (drop end s) ≡ 0
+  line-over h = rw h (run-after isValue s)
+
+  module _ (end : ℕ) {t : List ℕ} (ht : t ≡ drop end s) {f : Bool} (hf : f ≡ isFold t) where
+    -- the value goes on: the next line starts at `next`
+    module _ (y : f ≡ true) where
+      is-fold : isFold (drop end s) ≡ true
+      is-fold = ap isFold (sym ht) ∙ sym hf ∙ y
+
+      pub next-fits : end + 3 ≤ length s
+      next-fits = omega (arith, fold-room (drop end s) is-fold, length-drop end s)
+
+      module _ {next : ℕ} (hn : next ≡ end + 3) {u : List ℕ} (hu : u ≡ drop next s) {r : ℕ} (hr : r ≡ run isValue u) {k : ℕ} (hk : k ≡ next + r) where
+        r-is : r ≡ run isValue (drop next s)
+        r-is = hr ∙ ap (run isValue) hu
+
+        rest-is : drop r (drop next s) ≡ drop k s
+        rest-is = drop-drop r next s ∙ ap (λ (i : ℕ). drop i s) (sym hk)
+
+        pub next-within : k ≤ length s
+        next-within = omega (arith, next-fits, r-is, run-le isValue (drop next s), length-drop next s)
+
+        pub next-less : length s - k < length s - end
+        next-less = omega (arith, next-fits)
+
+        pub next-over : run isValue (drop k s) ≡ 0
+        next-over = rw (← rest-is, r-is) (run-after isValue (drop next s))
+
+        pub next-read : valueSize 0 s ≡ plus end (valueSize 0 (drop end s)) → valueSize 0 s ≡ plus k (valueSize 0 (drop k s))
+        next-read e =
+            let a : valueSize 0 (drop end s) ≡ plus 3 (valueSize 0 (drop next s)) =
+            fold-size (drop end s) is-fold ∙ rw (drop-drop 3 end s, ← hn) in
+            let b : valueSize 0 (drop next s) ≡ plus r (valueSize 0 (drop k s)) = rw (← rest-is, r-is) (past-line (drop next s)) in
+            let z : end + (3 + r) ≡ k = omega arith in
+            e ∙ rw (a, b, plus-plus 3 r (valueSize 0 (drop k s)), plus-plus end (3 + r) (valueSize 0 (drop k s)), z)
+
+    -- the value ends here, or its shape is bad
+    module _ (n : f ≡ false) {x : List ℕ} (hx : x ≡ drop end s) {g : Bool} (hg : g ≡ startsCRLF x) (e : valueSize 0 s ≡ plus end (valueSize 0 (drop end s))) where
+      no-fold : isFold (drop end s) ≡ false
+      no-fold = ap isFold (sym ht) ∙ sym hf ∙ n
+
+      g-is : g ≡ startsCRLF (drop end s)
+      g-is = hg ∙ ap startsCRLF hx
+
+      pub ends-bad : run isValue (drop end s) ≡ 0 → not g ≡ true → 0 ≡ endedSize s
+      unfolding endedSize
+      ends-bad z q = rw (e, bad-size (drop end s) z (sym g-is ∙ not-true g q))
+
+      module _ (q : not g ≡ false) where
+        pub end-fits : end + 2 ≤ length s
+        end-fits = omega (arith, crlf-room (drop end s) (sym g-is ∙ not-false g q), length-drop end s)
+
+        pub ends : {k : ℕ} → k ≡ end + 2 → k ≡ endedSize s
+        unfolding endedSize
+        ends h =
+            let z : end + 0 ≡ end = omega arith in
+            rw (e, end-size (drop end s) no-fold (sym g-is ∙ not-false g q), z) h
+
+        pub ends-within : {k : ℕ} → k ≡ end + 2 → k ≤ length s
+        ends-within h = omega (arith, end-fits)

@@ -1,0 +1,51 @@
+-- The spellings of this length are those of the tests, in their order.
+use Rattle.octets.specs.Classes.{text}
+use Rattle.sip.specs.Profile.{rows}
+use Rattle.lines.proofs.Spellings.{spellings, ofLength, by-length, hit, pass, last}
+use borrow.Author.Needs.{needs}
+use Rattle.lines.proofs.names.of_twelve.Statement.{statement}
+use Rattle.lines.proofs.names.of_twelve.Tie as tie
+
+slice-aggregate-same-text : tie.Need-slice-aggregate-same-text
+slice-aggregate-same-text c = search needs
+
+same-text-requires : tie.Need-same-text-requires
+same-text-requires c κs = search needs
+
+returns : tie.Need-returns
+unfolding text rows spellings ofLength
+returns c = search (by-length 12, hit)
+
+slice-aggregate-same-text-2 : tie.Need-slice-aggregate-same-text-2
+slice-aggregate-same-text-2 c = search needs
+
+same-text-requires-2 : tie.Need-same-text-requires-2
+same-text-requires-2 c κs = search needs
+
+returns-2 : tie.Need-returns-2
+unfolding text rows spellings ofLength
+returns-2 c = search (by-length 12, pass, hit)
+
+slice-aggregate-only : tie.Need-slice-aggregate-only
+slice-aggregate-only c = search needs
+
+only-requires : tie.Need-only-requires
+only-requires c κs = search needs
+
+returns-3 : tie.Need-returns-3
+unfolding text rows spellings ofLength
+returns-3 c = search (by-length 12, pass, last)
+
+pub of-twelve-spec : {M : Type 1} → statement M
+of-twelve-spec =
+    tie.close
+    (tie.spec
+    slice-aggregate-same-text
+    same-text-requires
+    returns
+    slice-aggregate-same-text-2
+    same-text-requires-2
+    returns-2
+    slice-aggregate-only
+    only-requires
+    returns-3)

@@ -1,0 +1,15 @@
+-- The law that a run by the class table is a run of the class carries it.
+use Rattle.octets.proofs.Classes.{value-class}
+use Rattle.lines.proofs.Classes.{of-class}
+use borrow.Author.Needs.{needs}
+use Rattle.lines.proofs.scan.values.Statement.{statement}
+use Rattle.lines.proofs.scan.values.Tie as tie
+
+run-requires : tie.Need-run-requires
+run-requires c κs = search needs
+
+returns : tie.Need-returns
+returns c = search (of-class 128 value-class, needs)
+
+pub values-spec : {M : Type 1} → statement M
+values-spec = tie.close (tie.spec run-requires returns)

@@ -1,0 +1,78 @@
+-- What reading a message leaves for its later users.
+use mathlib.Core.Bool.{false, not, cond}
+use mathlib.Core.List.{List, [], _∷_, _++_}
+use Prim.Native.Nat.{ℕ, zero, suc, _+_, _*_, _-_}
+use lib.Dec.{eqb, ltb}
+use lib.ListN.{length, getD}
+use Rattle.octets.specs.Classes.{bit, isBreak, isGap}
+use Rattle.sip.specs.Lines.{Start, startSize, Field, bytes, Header, any, trim}
+use Rattle.sip.specs.Profile.{numberOf}
+use Rattle.sip.specs.Refusals.{Lines, unread, read, lines}
+use Rattle.sip.specs.Readings.{valueSpan}
+use Rattle.lines.specs.declared.Slot.{Slot}
+use Rattle.lines.specs.declared.Message.{Message}
+
+-- the field that starts at place at of the message
+unfoldable pub slotOf : ℕ → Field → Slot
+slotOf at f =
+    let p = valueSpan at f in
+    record { number = numberOf (f .name); start = p .start; len = p .len; folded = any isBreak (trim isGap (f .value)) }
+
+-- the listed fields, the first field being at place at of the message
+unfoldable pub slotsOf : ℕ → List Field → List Slot
+slotsOf at [] = []
+slotsOf at (f ∷ fs) =
+    let others = slotsOf (at + length (bytes f)) fs in
+    cond (eqb (numberOf (f .name)) 0) others (slotOf at f ∷ others)
+
+-- four numbers for each field, one field after the other
+unfoldable pub packed : List Slot → List ℕ
+packed [] = []
+packed (s ∷ ss) = s .number ∷ s .start ∷ s .len ∷ bit (s .folded) ∷ packed ss
+
+unfoldable pub zeros : ℕ → List ℕ
+zeros zero = []
+zeros (suc n) = 0 ∷ zeros n
+
+-- the 384 numbers of 96 fields that begin with these
+unfoldable pub padded : List Slot → List ℕ
+padded ss = packed ss ++ zeros (384 - 4 * length ss)
+
+abbrev pub noSlot : Slot
+noSlot = record { number = 0; start = 0; len = 0; folded = false }
+
+-- the i-th field of such numbers, from 0; none past the 96
+unfoldable pub slotAt : List ℕ → ℕ → Slot
+slotAt ns i =
+    let here : Slot =
+    record {
+      number = getD ns (4 * i) 0;
+      start = getD ns (4 * i + 1) 0;
+      len = getD ns (4 * i + 2) 0;
+      folded = not (eqb (getD ns (4 * i + 3) 0) 0);
+    }
+    in
+    cond (ltb i 96) here noSlot
+
+abbrev pub unreadMessage : ℕ → Message
+unreadMessage reason = record { reason = reason; method = 0; uri = 0; rest = 0; count = 0; slots = zeros 384 }
+
+abbrev pub readMessage : List ℕ → Start → Header → Message
+readMessage m l h =
+    let ss = slotsOf (startSize l) (h .fields) in
+    record {
+      reason = 0;
+      method = length (l .method);
+      uri = length (l .uri);
+      rest = length m - length (h .rest);
+      count = length ss;
+      slots = padded ss;
+    }
+
+abbrev pub messageOf : List ℕ → Lines → Message
+messageOf m (unread r) = unreadMessage r
+messageOf m (read l h) = readMessage m l h
+
+-- a message by its lines
+unfoldable pub message : List ℕ → Message
+message m = messageOf m (lines m)

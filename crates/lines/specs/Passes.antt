@@ -1,0 +1,76 @@
+-- What the passes inside this crate leave: over the fields of a message, and over its slots.
+use mathlib.Core.Bool.{Bool, false, not, cond, _&&_}
+use mathlib.Core.List.{List, [], _∷_, _++_}
+use Prim.Native.Nat.{ℕ, zero, suc, _+_, _*_, _<_}
+use lib.Dec.{eqb, ltb}
+use lib.ListN.{length, set}
+use Rattle.octets.specs.Classes.{bit, isBreak, isGap}
+use Rattle.octets.specs.Scans.{run}
+use Rattle.sip.specs.Lines.{any, trim}
+use Rattle.sip.specs.Readings.{noSpan, place}
+use Rattle.sip.specs.Values.{isEmpty}
+use Rattle.sip.specs.declared.Span.{Span}
+use Rattle.lines.specs.Index.{slotAt, unreadMessage, noSlot}
+use Rattle.lines.specs.declared.Slot.{Slot}
+use Rattle.lines.specs.declared.Message.{Message}
+use Rattle.lines.specs.declared.header.Ended.{Ended}
+use Rattle.lines.specs.declared.slots.Counted.{Counted}
+
+-- ---- over the fields
+
+-- the slot of a field of that number whose value v stands at place at of the message
+unfoldable pub slotFor : ℕ → ℕ → List ℕ → Slot
+slotFor number at v =
+    let t = trim isGap v in
+    let p = cond (isEmpty t) noSpan (record { start = at + run isGap v; len = length t }) in
+    record { number = number; start = p .start; len = p .len; folded = any isBreak t }
+
+-- the same of a field that is listed
+unfoldable pub listedSlot : ℕ → ℕ → List ℕ → Slot
+listedSlot number at v = cond (eqb number 0) noSlot (slotFor number at v)
+
+-- its numbers have two bytes at most
+pub record Small (s : Slot) : Type 0 where
+  pub small-number : s .number < 65536
+  pub small-start : s .start < 65536
+  pub small-len : s .len < 65536
+
+-- the four numbers of the i-th field, stored
+abbrev pub stored : List ℕ → ℕ → Slot → List ℕ
+stored ns i s = set (set (set (set ns (4 * i) (s .number)) (4 * i + 1) (s .start)) (4 * i + 2) (s .len)) (4 * i + 3) (bit (s .folded))
+
+-- a slot is listed, and there is room for it after count others
+unfoldable pub keeps : ℕ → Slot → Bool
+keeps count s = not (eqb (s .number) 0) && ltb count 96
+
+abbrev pub refusedEnd : ℕ → Ended
+refusedEnd reason = record { reason = reason; rest = 0; count = 0 }
+
+-- the message whose fields end so
+unfoldable pub settled : ℕ → ℕ → Ended → List ℕ → Message
+settled method uri e ns =
+    cond (eqb (e .reason) 0)
+    (record { reason = 0; method = method; uri = uri; rest = e .rest; count = e .count; slots = ns })
+    (unreadMessage (e .reason))
+
+-- ---- over the slots
+
+unfoldable pub firstSlots : ℕ → List ℕ → List Slot
+firstSlots zero ns = []
+firstSlots (suc i) ns = firstSlots i ns ++ slotAt ns i ∷ []
+
+abbrev pub spanOf : Slot → Span
+spanOf s = record { start = s .start; len = s .len }
+
+-- where the values of the slots of number n stand
+unfoldable pub spansIn : ℕ → List Slot → List Span
+spansIn n [] = []
+spansIn n (s ∷ ss) = let others = spansIn n ss in cond (eqb (s .number) n) (spanOf s ∷ others) others
+
+abbrev pub countedIn : ℕ → List Span → Counted
+countedIn k ps = record { count = length ps; span = place k ps }
+
+-- one slot more is looked at
+unfoldable pub counting : ℕ → ℕ → Counted → Slot → Counted
+counting n k c s =
+    cond (eqb (s .number) n) (record { count = c .count + 1; span = cond (eqb (c .count + 1) k) (spanOf s) (c .span) }) c

@@ -1,0 +1,245 @@
+// All lines of a message in one pass: reasons 2 to 5, or the listed fields.
+use crate::FieldAt;
+use crate::Message;
+use crate::Slot;
+use crate::StartAt;
+use crate::field;
+use crate::start;
+use crate::value;
+ghost use mathlib.Core.Path.{_≡_};
+ghost use mathlib.Core.Bool.{cond};
+ghost use mathlib.Core.List.{[]};
+ghost use Prim.Native.Nat.{_+_, _-_, _≤_, _<_};
+ghost use lib.ListN.{length, take, drop};
+ghost use Rattle.octets.specs.Classes.{classTable, bit, isBreak};
+ghost use Rattle.sip.specs.Lines.{any};
+ghost use Rattle.sip.specs.Profile.{numberOf};
+ghost use Rattle.lines.specs.Places.{startAt};
+ghost use Rattle.lines.specs.Index.{padded, unreadMessage, message};
+ghost use Rattle.lines.specs.Passes.{slotFor, listedSlot, Small, stored, keeps, refusedEnd, settled};
+ghost use Rattle.lines.specs.declared.StartAt.the-variants.{Found};
+
+// How the fields end: the reason why they are not read, or 0; where the rest starts; how many listed fields have a slot.
+pub(crate) struct Ended {
+    pub reason: u64,
+    pub rest: usize,
+    pub count: usize,
+}
+
+pub(crate) fn unread(reason: u64) -> Message
+    ensures { λ r. ⌜ r ≡ unreadMessage reason ⌝ }
+{
+    Message {
+        reason,
+        method: 0,
+        uri: 0,
+        rest: 0,
+        count: 0,
+        slots: [0u16; 384],
+    }
+}
+
+// A line break stands in the text.
+fn has_break(s: &[u8]) -> bool
+    ensures { λ r. ⌜ r ≡ any isBreak (now (s .entry)) ⌝ }
+{
+    let mut i = 0;
+    while i < s.len() {
+        let b = s[i];
+        if b == b'\r' {
+            return true;
+        }
+        if b == b'\n' {
+            return true;
+        }
+        i += 1;
+    }
+    false
+}
+
+// The slot of a field of that number whose value v stands at the place at. A value of one line is not looked at again for a line break.
+fn slot(table: &[u16; 256], number: usize, at: usize, v: &[u8], folded: bool) -> Slot
+    requires { ⌜ (now table ≡ classTable) × (folded ≡ any isBreak (now v)) × (at + length (now v) ≤ 8192) ⌝ }
+    ensures { λ r. ⌜ (r ≡ slotFor number at (now (v .entry))) × (r .number ≡ number) × (r .start + r .len ≤ 8192) ⌝ }
+{
+    let p = value::trimmed(table, v);
+    let len = p.len;
+    if len < 1 {
+        return Slot {
+            number,
+            start: 0,
+            len: 0,
+            folded: false,
+        };
+    }
+    let gap = p.start;
+    let start = at + gap;
+    if !folded {
+        return Slot {
+            number,
+            start,
+            len,
+            folded: false,
+        };
+    }
+    let broken = has_break(octets::first(octets::rest(v, gap), len));
+    Slot {
+        number,
+        start,
+        len,
+        folded: broken,
+    }
+}
+
+// The slot of the field between at and end, by where its name ends and its value starts. A field that is not listed has number 0.
+fn slot_of(
+    table: &[u16; 256],
+    s: &[u8],
+    at: usize,
+    name: usize,
+    value: usize,
+    end: usize,
+    folded: bool,
+) -> Slot
+    requires { ⌜ (now table ≡ classTable) × (at ≤ name) × (value ≤ end) × (end ≤ 8192) × (folded ≡ any isBreak (take (end - value) (drop value (now s)))) ⌝ }
+    ensures { λ r. ⌜ (r ≡ listedSlot (numberOf (take (name - at) (drop at (now (s .entry))))) value (take (end - value) (drop value (now (s .entry))))) × (r .number ≤ 18) × (r .start + r .len ≤ 8192) ⌝ }
+{
+    let number = crate::number_of(octets::first(octets::rest(s, at), name - at));
+    if number < 1 {
+        return Slot {
+            number: 0,
+            start: 0,
+            len: 0,
+            folded: false,
+        };
+    }
+    slot(
+        table,
+        number,
+        value,
+        octets::first(octets::rest(s, value), end - value),
+        folded,
+    )
+}
+
+fn flag(b: bool) -> u16
+    ensures { λ r. ⌜ r ≡ bit b ⌝ }
+{
+    if b { 1 } else { 0 }
+}
+
+fn narrow(n: usize) -> u16
+    requires { ⌜ n < 65536 ⌝ }
+    ensures { λ r. ⌜ r ≡ n ⌝ }
+{
+    n as u16
+}
+
+// The four numbers of the i-th listed field.
+fn store(slots: &mut [u16; 384], i: usize, s: Slot)
+    requires { ⌜ (i < 96) × Small s ⌝ }
+    ensures { λ r. ⌜ now (slots .exit) ≡ stored (now (slots .entry)) i s ⌝ }
+{
+    let at = 4 * i;
+    slots[at] = narrow(s.number);
+    slots[at + 1] = narrow(s.start);
+    slots[at + 2] = narrow(s.len);
+    slots[at + 3] = flag(s.folded);
+}
+
+// Takes up a field: a listed one has a slot, as long as there are any. How many have one then.
+fn add(slots: &mut [u16; 384], count: usize, s: Slot) -> usize
+    requires { ⌜ Small s ⌝ }
+    ensures { λ r. ⌜ (r ≡ cond (keeps count s) (count + 1) count) × (now (slots .exit) ≡ cond (keeps count s) (stored (now (slots .entry)) count s) (now (slots .entry))) ⌝ }
+{
+    if s.number < 1 {
+        return count;
+    }
+    if 96 <= count {
+        return count;
+    }
+    store(slots, count, s);
+    count + 1
+}
+
+// The fields are not read, for that reason.
+fn refused(reason: u64) -> Ended
+    ensures { λ r. ⌜ r ≡ refusedEnd reason ⌝ }
+{
+    Ended {
+        reason,
+        rest: 0,
+        count: 0,
+    }
+}
+
+// Reads the fields after a start line of these lengths. Past 96 of them it goes on without slots, since a bad shape comes first.
+fn fields(table: &[u16; 256], s: &[u8], slots: &mut [u16; 384], method: usize, uri: usize) -> Ended
+    requires { ⌜ (now table ≡ classTable) × (length (now s) ≤ 8192) × (startAt (now s) ≡ Found method uri) × (method + uri + 11 ≤ length (now s)) × (now slots ≡ padded []) ⌝ }
+    ensures { λ r. ⌜ settled method uri r (now (slots .exit)) ≡ message (now (s .entry)) ⌝ }
+{
+    let mut count = 0;
+    let mut number: usize = 0;
+    let mut at = method + uri + 11;
+    while at < s.len() {
+        if field::is_empty_line(octets::rest(s, at)) {
+            if number <= 96 {
+                let rest = at + 2;
+                return Ended {
+                    reason: 0,
+                    rest,
+                    count,
+                };
+            }
+            return refused(5);
+        }
+        match field::read(table, s, at) {
+            FieldAt::Bad => {
+                return refused(4);
+            }
+            FieldAt::Found {
+                name,
+                value,
+                end,
+                folded,
+            } => {
+                let found = slot_of(table, s, at, name, value, end, folded);
+                count = add(slots, count, found);
+                number += 1;
+                at = end + 2;
+            }
+        }
+    }
+    refused(4)
+}
+
+// The message after a start line of these lengths.
+fn after_start(table: &[u16; 256], s: &[u8], method: usize, uri: usize) -> Message
+    requires { ⌜ (now table ≡ classTable) × (length (now s) ≤ 8192) × (startAt (now s) ≡ Found method uri) × (method + uri + 11 ≤ length (now s)) ⌝ }
+    ensures { λ r. ⌜ r ≡ message (now (s .entry)) ⌝ }
+{
+    let mut slots = [0u16; 384];
+    let end = fields(table, s, &mut slots, method, uri);
+    let reason = end.reason;
+    if reason != 0 {
+        return unread(reason);
+    }
+    Message {
+        reason: 0,
+        method,
+        uri,
+        rest: end.rest,
+        count: end.count,
+        slots,
+    }
+}
+
+pub(crate) fn lines(table: &[u16; 256], s: &[u8]) -> Message
+    requires { ⌜ (now table ≡ classTable) × (length (now s) ≤ 8192) ⌝ }
+    ensures { λ r. ⌜ r ≡ message (now (s .entry)) ⌝ }
+{
+    match start::read(table, s) {
+        StartAt::Bad => unread(3),
+        StartAt::Found { method, uri } => after_start(table, s, method, uri),
+    }
+}

@@ -1,0 +1,148 @@
+// Reads the lines of a message: start line, fields, names, canonical values.
+ghost use mathlib.Core.Path.{_≡_};
+ghost use Prim.Native.Nat.{_≤_, _<_};
+ghost use Rattle.sip.specs.Profile.{numberOf};
+ghost use Rattle.sip.specs.Readings.{spans, count, readingAt, reading};
+ghost use Rattle.lines.specs.Places.{startAt, fieldAt};
+ghost use Rattle.lines.specs.Index.{message as messageLines, slotAt};
+ghost use Rattle.lines.specs.Passes.{countedIn};
+use slots::Counted;
+
+mod field;
+mod header;
+mod names;
+mod scan;
+mod slots;
+mod start;
+mod value;
+
+// The start line at the front of a text, by the lengths of its method and its Request-URI.
+pub enum StartAt {
+    Found { method: usize, uri: usize },
+    Bad,
+}
+
+// The field at a place of a text: where its name ends, where its value starts and ends, and whether the value goes over several lines.
+// The CRLF that ends the field stands at `end`.
+pub enum FieldAt {
+    Found {
+        name: usize,
+        value: usize,
+        end: usize,
+        folded: bool,
+    },
+    Bad,
+}
+
+// A listed field of a message: its number, where its value stands without the spaces, tabs and line breaks at both ends, and whether
+// there is a line break in it.
+pub struct Slot {
+    pub number: usize,
+    pub start: usize,
+    pub len: usize,
+    pub folded: bool,
+}
+
+// A message by its lines: the reason of 2 to 5 why it is not read, or 0; the lengths of method and Request-URI; where the rest starts,
+// after the empty line; how many listed fields there are, and four numbers for each of them, as a slot has them.
+pub struct Message {
+    pub reason: u64,
+    pub method: usize,
+    pub uri: usize,
+    pub rest: usize,
+    pub count: usize,
+    pub slots: [u16; 384],
+}
+
+// The start line at the front of a text.
+pub fn start_line(s: &[u8]) -> StartAt
+    ensures { λ r. ⌜ r ≡ startAt (now (s .entry)) ⌝ }
+{
+    let table = octets::class_table();
+    start::read(&table, s)
+}
+
+// The field at a place of a text.
+pub fn field_at(s: &[u8], at: usize) -> FieldAt
+    ensures { λ r. ⌜ r ≡ fieldAt (now (s .entry)) at ⌝ }
+{
+    let table = octets::class_table();
+    field::read(&table, s, at)
+}
+
+// The number of a field's name, in long or compact form and any letter case. 0 where it is not listed.
+// The length comes first: it leaves four spellings at most.
+pub fn number_of(name: &[u8]) -> usize
+    ensures { λ r. ⌜ (r ≡ numberOf (now (name .entry))) × (r ≤ 18) ⌝ }
+{
+    match name.len() {
+        1 => names::compact(name),
+        2 => names::only(name, b"To", 4),
+        3 => names::only(name, b"Via", 1),
+        4 => names::of_four(name),
+        5 => names::of_five(name),
+        6 => names::of_six(name),
+        7 => names::of_seven(name),
+        9 => names::only(name, b"Supported", 13),
+        12 => names::of_twelve(name),
+        14 => names::only(name, b"Content-Length", 8),
+        19 => names::only(name, b"P-Asserted-Identity", 15),
+        _ => 0,
+    }
+}
+
+// The lines of a message.
+pub fn read(message: &[u8]) -> Message
+    ensures { λ r. ⌜ r ≡ messageLines (now (message .entry)) ⌝ }
+{
+    if 8192 < message.len() {
+        return header::unread(2);
+    }
+    let table = octets::class_table();
+    header::lines(&table, message)
+}
+
+// The i-th slot, from 0, of those that `read` leaves.
+pub fn slot_at(slots: &[u16; 384], i: usize) -> Slot
+    ensures { λ r. ⌜ (r ≡ slotAt (now (slots .entry)) i) × (r .number < 65536) × (r .start < 65536) × (r .len < 65536) ⌝ }
+{
+    slots::slot_at(slots, i)
+}
+
+// How often the field of number n occurs.
+pub fn count(message: &[u8], n: u64) -> usize
+    ensures { λ r. ⌜ r ≡ count (now (message .entry)) n ⌝ }
+{
+    let found = found_in(message, n, 0);
+    found.count
+}
+
+// Where the value of the k-th field of number n stands, k from 1.
+pub fn reading_at(message: &[u8], n: u64, k: u64) -> sip::Span
+    ensures { λ r. ⌜ r ≡ readingAt (now (message .entry)) n k ⌝ }
+{
+    let found = found_in(message, n, k);
+    found.span
+}
+
+// The value of the k-th field of number n, as a part of the message.
+pub fn reading(message: &[u8], n: u64, k: u64) -> &[u8]
+    ensures { λ r. ⌜ now r ≡ reading (now (message .entry)) n k ⌝ }
+{
+    let p = reading_at(message, n, k);
+    octets::first(octets::rest(message, p.start), p.len)
+}
+
+// The fields of number n: how many there are, and where the value of the k-th stands. No field of a message that is read has number 0.
+fn found_in(message: &[u8], n: u64, k: u64) -> Counted
+    ensures { λ r. ⌜ r ≡ countedIn k (spans (now (message .entry)) n) ⌝ }
+{
+    if n < 1 {
+        return Counted {
+            count: 0,
+            span: sip::Span { start: 0, len: 0 },
+        };
+    }
+    let m = read(message);
+    slots::find(&m.slots, m.count, n, k)
+}
