@@ -1,0 +1,43 @@
+-- What reading found, case by case (Callers).
+use Rattle.gateway.proofs.Top.{reads}
+use Rattle.gateway.proofs.Callers.{bad-trunk, unread-caller, good-trunk}
+use borrow.Author.Needs.{needs}
+use Rattle.gateway.proofs.calling_at.Statement.{statement}
+use Rattle.gateway.proofs.calling_at.Tie as tie
+
+is-global-requires : tie.Need-is-global-requires
+is-global-requires c κs = search needs
+
+no-calling-requires : tie.Need-no-calling-requires
+no-calling-requires c κs = search needs
+
+returns : tie.Need-returns
+returns c = search (bad-trunk, needs)
+
+read-requires : tie.Need-read-requires
+read-requires c κs = search needs
+
+no-calling-requires-2 : tie.Need-no-calling-requires-2
+no-calling-requires-2 c κs = search needs
+
+returns-2 : tie.Need-returns-2
+returns-2 c = search (unread-caller, needs)
+
+calling-read-requires : tie.Need-calling-read-requires
+calling-read-requires c κs = (search (reads, needs), search (good-trunk, needs))
+
+returns-3 : tie.Need-returns-3
+returns-3 c = search needs
+
+pub calling-at-spec : {M : Type 1} → statement M
+calling-at-spec =
+    tie.close
+    (tie.spec
+    is-global-requires
+    no-calling-requires
+    returns
+    read-requires
+    no-calling-requires-2
+    returns-2
+    calling-read-requires
+    returns-3)

@@ -1,0 +1,98 @@
+// What a gateway in C or Rust calls: numbers and byte slices only. A slice is a pointer and a length on the C side.
+use gateway::Verdict;
+ghost use mathlib.Core.Path.{_≡_};
+ghost use Rattle.causes.specs.Causes.{status, cause};
+ghost use Rattle.sip.specs.Readings.{count, readingAt, callingAt};
+ghost use Rattle.octets.specs.Classes.{bit};
+ghost use Rattle.sip.specs.Screen.{screened};
+ghost use Rattle.mishkolar.specs.Numbers.{Screens};
+
+#[no_mangle]
+pub extern "C" fn mishkolar_screen(
+    message: &[u8],
+    side: u64,
+    out: &mut [u8],
+    reason: &mut u64,
+    reply: &mut u64,
+    detail: &mut u64,
+    missing: &mut u64,
+) -> usize
+    ensures { λ r. ⌜ Screens (screened (now (message .entry)) side (now (out .entry))) (now (reason .exit)) (now (reply .exit)) (now (detail .exit)) (now (missing .exit)) r (now (out .exit)) ⌝ }
+{
+    match gateway::screen(message, side, out) {
+        Verdict::Accepted(len) => {
+            *reason = 0;
+            *reply = 0;
+            *detail = 0;
+            *missing = 0;
+            len
+        }
+        Verdict::Refused(r) => {
+            *reason = r.reason;
+            *reply = r.reply;
+            *detail = r.detail;
+            *missing = r.missing;
+            0
+        }
+    }
+}
+
+#[no_mangle]
+pub extern "C" fn mishkolar_count(message: &[u8], field: u64) -> usize
+    ensures { λ r. ⌜ r ≡ count (now (message .entry)) field ⌝ }
+{
+    lines::count(message, field)
+}
+
+#[no_mangle]
+pub extern "C" fn mishkolar_reading(
+    message: &[u8],
+    field: u64,
+    place: u64,
+    start: &mut usize,
+) -> usize
+    ensures { λ r. ⌜ (r ≡ readingAt (now (message .entry)) field place .len) × (now (start .exit) ≡ readingAt (now (message .entry)) field place .start) ⌝ }
+{
+    let p = lines::reading_at(message, field, place);
+    *start = p.start;
+    p.len
+}
+
+#[no_mangle]
+pub extern "C" fn mishkolar_status_of_cause(value: u64, refusal: &mut u64) -> u64
+    ensures { λ r. ⌜ (r ≡ status value .status) × (now (refusal .exit) ≡ status value .refusal) ⌝ }
+{
+    let answer = causes::status_of_cause(value);
+    *refusal = answer.refusal;
+    answer.status
+}
+
+#[no_mangle]
+pub extern "C" fn mishkolar_cause_of_status(code: u64, refusal: &mut u64) -> u64
+    ensures { λ r. ⌜ (r ≡ cause code .cause) × (now (refusal .exit) ≡ cause code .refusal) ⌝ }
+{
+    let answer = causes::cause_of_status(code);
+    *refusal = answer.refusal;
+    answer.cause
+}
+
+#[no_mangle]
+pub extern "C" fn mishkolar_calling_number(
+    message: &[u8],
+    trunk: &[u8],
+    start: &mut usize,
+    from_trunk: &mut u64,
+) -> usize
+    ensures { λ r. ⌜ (r ≡ callingAt (now (message .entry)) (now (trunk .entry)) .len) × (now (start .exit) ≡ callingAt (now (message .entry)) (now (trunk .entry)) .start) × (now («from_trunk» .exit) ≡ bit (callingAt (now (message .entry)) (now (trunk .entry)) .«from_trunk»)) ⌝ }
+{
+    let p = gateway::calling_at(message, trunk);
+    *start = p.start;
+    *from_trunk = flag(p.from_trunk);
+    p.len
+}
+
+fn flag(b: bool) -> u64
+    ensures { λ r. ⌜ r ≡ bit b ⌝ }
+{
+    if b { 1 } else { 0 }
+}

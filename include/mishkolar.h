@@ -1,0 +1,65 @@
+/*
+ * Mishkolar: the screen of a SIP call gateway.
+ *
+ * Every function takes any bytes and any numbers, always returns, reads nothing outside the bytes it is lent, keeps nothing and
+ * allocates nothing. A pointer may be null where its length is 0. The parts of memory lent to one call must not overlap.
+ * Link with libmishkolar.a, which `rt staticlib mishkolar` writes to target/staticlib.
+ */
+#ifndef MISHKOLAR_H
+#define MISHKOLAR_H
+
+#include <stddef.h>
+#include <stdint.h>
+
+#ifdef __cplusplus
+extern "C" {
+#endif
+
+/*
+ * Screens one SIP request that goes to a peer on a side: 0 trusted, 1 untrusted.
+ *
+ * Accepted: *reason is 0, the outgoing message stands at the front of out, and its length is returned. The other bytes of out stay.
+ * Refused: *reason is 1 to 16, 0 is returned, and out is untouched. Then
+ *   *reply    is the SIP status to answer with; 0: send nothing (always for ACK);
+ *   *detail   is at 9 the number of the field that came again, at 10 of the malformed one, at 12 the lowest missing number, at 14 the
+ *             place of the required tag that we lack, at 16 the length needed; else 0;
+ *   *missing  is at 12 how many mandatory fields are missing; else 0.
+ * Reasons: 1 side, 2 over 8,192 bytes, 3 start line, 4 a field's shape or no empty line, 5 over 96 fields, 6 method, 7 scheme of the
+ * Request-URI, 8 Request-URI, 9 a field came again, 10 a malformed value, 11 Content-Length exceeds the bytes there, 12 mandatory
+ * field missing, 13 Max-Forwards is 0, 14 a required tag we lack, 15 called number, 16 output longer than out.
+ * room is enough for any message of len bytes where it is at least len + 1023.
+ */
+size_t mishkolar_screen(const uint8_t *message, size_t len, uint64_t side, uint8_t *out, size_t room,
+                        uint64_t *reason, uint64_t *reply, uint64_t *detail, uint64_t *missing);
+
+/*
+ * How often the field of that number (1 Via to 18 Record-Route) stands in the message, in long or compact form and any letter case;
+ * 0 where the message is not well shaped or the number is not listed.
+ */
+size_t mishkolar_count(const uint8_t *message, size_t len, uint64_t field);
+
+/*
+ * The value of the place-th field of that number, place from 1: its length is returned, and *start is where it starts in the message,
+ * without the spaces, tabs and line breaks at both ends. Where there is none, or it is empty, both are 0.
+ */
+size_t mishkolar_reading(const uint8_t *message, size_t len, uint64_t field, uint64_t place, size_t *start);
+
+/*
+ * The calling number, with its plus sign: the length is returned. *from_trunk is 1 where it is the trunk number, else it stands in the
+ * message from *start on. It is empty, and all three are 0, where the trunk number is no plus sign and 7 to 15 digits, the first not 0, or where the
+ * message has a reason of 2 to 15 on side 0.
+ */
+size_t mishkolar_calling_number(const uint8_t *message, size_t len, const uint8_t *trunk, size_t trunk_len,
+                                size_t *start, uint64_t *from_trunk);
+
+/* The SIP status for a Q.850 cause value. Over 127: 0, and *refusal is 21; else *refusal is 0. */
+uint64_t mishkolar_status_of_cause(uint64_t cause, uint64_t *refusal);
+
+/* The Q.850 cause value for a SIP status. Outside 400 to 699: 0, and *refusal is 22; else *refusal is 0. */
+uint64_t mishkolar_cause_of_status(uint64_t status, uint64_t *refusal);
+
+#ifdef __cplusplus
+}
+#endif
+
+#endif
