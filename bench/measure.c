@@ -1,0 +1,170 @@
+/*
+ * One screening, or one parsing and writing, of each message by each of four implementations:
+ *   mishkolar   the proved library: judge, and write the outgoing message into a buffer
+ *   second      the second implementation, the same
+ *   osip        libosip2: parse into its structures, write as text, free
+ *   sofia       sofia-sip: the same
+ * Buffers are not cleared between the calls. Every call is done once before it is measured.
+ *
+ * use: measure count FILE...    one call of a measured_ function for each printed line, with a dump by callgrind that has its number
+ *      measure time FILE...     prints the median nanoseconds of one call
+ * A line is: file, implementation, 1 where the message was taken or 0, nanoseconds or the number of the dump.
+ */
+#define _POSIX_C_SOURCE 200809L
+#include <stdint.h>
+#include <stdio.h>
+#include <stdlib.h>
+#include <string.h>
+#include <time.h>
+
+#include <osipparser2/osip_parser.h>
+#include <sofia-sip/msg.h>
+#include <sofia-sip/sip.h>
+#include <sofia-sip/sip_header.h>
+#include <sofia-sip/su_alloc.h>
+#include <valgrind/callgrind.h>
+
+#include "mishkolar.h"
+
+#define SIDE 1
+#define BATCHES 201
+#define BATCH_NANOSECONDS 50000
+
+size_t second_screen(const uint8_t *message, size_t len, uint64_t side, uint8_t *out, size_t room);
+
+static uint8_t message[8193];
+static size_t len;
+static uint8_t out[9216];
+static volatile size_t sink;
+
+/* Each returns the length written, 0 where the message is not taken. */
+__attribute__((noinline)) size_t measured_mishkolar(void)
+{
+    uint64_t reason, reply, detail, missing;
+    return mishkolar_screen(message, len, SIDE, out, sizeof out, &reason, &reply, &detail, &missing);
+}
+
+__attribute__((noinline)) size_t measured_second(void)
+{
+    return second_screen(message, len, SIDE, out, sizeof out);
+}
+
+__attribute__((noinline)) size_t measured_osip(void)
+{
+    osip_message_t *sip = NULL;
+    char *text = NULL;
+    size_t text_len = 0;
+
+    if (osip_message_init(&sip) != 0)
+        return 0;
+    if (osip_message_parse(sip, (const char *)message, len) != 0 || osip_message_to_str(sip, &text, &text_len) != 0)
+        text_len = 0;
+    osip_free(text);
+    osip_message_free(sip);
+    return text_len;
+}
+
+__attribute__((noinline)) size_t measured_sofia(void)
+{
+    msg_t *msg = msg_make(sip_default_mclass(), 0, message, (ssize_t)len);
+    sip_t *sip = msg == NULL ? NULL : sip_object(msg);
+    size_t text_len = 0;
+
+    if (sip != NULL && sip->sip_request != NULL && sip->sip_error == NULL) {
+        /* The fields are written from what was parsed, and not copied from the text that was read. */
+        msg_common_t *h;
+        for (h = sip->sip_request->rq_common; h != NULL; h = h->h_succ == NULL ? NULL : h->h_succ->sh_common)
+            msg_fragment_clear(h);
+        if (msg_as_string(msg_home(msg), msg, NULL, 0, &text_len) == NULL)
+            text_len = 0;
+    }
+    if (msg != NULL)
+        msg_destroy(msg);
+    return text_len;
+}
+
+static const struct {
+    const char *name;
+    size_t (*call)(void);
+} implementations[] = {
+    { "mishkolar", measured_mishkolar },
+    { "second", measured_second },
+    { "osip", measured_osip },
+    { "sofia", measured_sofia },
+};
+
+static double nanoseconds(void)
+{
+    struct timespec now;
+    clock_gettime(CLOCK_MONOTONIC, &now);
+    return (double)now.tv_sec * 1e9 + (double)now.tv_nsec;
+}
+
+static int by_value(const void *a, const void *b)
+{
+    double x = *(const double *)a, y = *(const double *)b;
+    return (x > y) - (x < y);
+}
+
+/* The median over batches of the time of one call. */
+static double median(size_t (*call)(void))
+{
+    static double times[BATCHES];
+    size_t calls = 1, i;
+    int batch;
+
+    for (;;) {
+        double begin = nanoseconds();
+        for (i = 0; i < calls; i++)
+            sink = call();
+        if (nanoseconds() - begin >= BATCH_NANOSECONDS || calls > 1000000)
+            break;
+        calls *= 2;
+    }
+    for (batch = 0; batch < BATCHES; batch++) {
+        double begin = nanoseconds();
+        for (i = 0; i < calls; i++)
+            sink = call();
+        times[batch] = (nanoseconds() - begin) / (double)calls;
+    }
+    qsort(times, BATCHES, sizeof times[0], by_value);
+    return times[BATCHES / 2];
+}
+
+int main(int argc, char **argv)
+{
+    int timed = argc > 2 && strcmp(argv[1], "time") == 0;
+    int place, dumps = 0;
+    size_t i;
+
+    if (argc < 3 || (!timed && strcmp(argv[1], "count") != 0)) {
+        fprintf(stderr, "use: %s count|time FILE...\n", argv[0]);
+        return 2;
+    }
+    parser_init();
+    for (place = 2; place < argc; place++) {
+        FILE *file = fopen(argv[place], "rb");
+        if (file == NULL) {
+            perror(argv[place]);
+            return 1;
+        }
+        len = fread(message, 1, sizeof message, file);
+        fclose(file);
+        for (i = 0; i < sizeof implementations / sizeof implementations[0]; i++) {
+            /* The first call warms up. */
+            size_t taken = implementations[i].call();
+            double number;
+            if (timed) {
+                number = median(implementations[i].call);
+            } else {
+                CALLGRIND_ZERO_STATS;
+                sink = implementations[i].call();
+                CALLGRIND_DUMP_STATS;
+                number = ++dumps;
+            }
+            printf("%s %s %d %.0f\n", argv[place], implementations[i].name, taken != 0, number);
+            fflush(stdout);
+        }
+    }
+    return 0;
+}

@@ -1,0 +1,139 @@
+#!/usr/bin/env python3
+"""Writes the benchmark's messages into a folder: messages.py FOLDER
+
+call            the build description's call in full
+invite          an INVITE of about 1,300 bytes with a body
+SHAPE-LENGTH    messages that ask for the most work, accepted, of 1,000 to 8,192 bytes each:
+  folds         one value folded at every fifth byte
+  quoted        one long quoted string with an escape at every second byte
+  parameters    one address with many parameters
+  tags          many required tags
+  fields        96 fields
+"""
+import os
+import sys
+
+LENGTHS = [1000, 2000, 3000, 4000, 6000, 8192]
+SHAPES = ["folds", "quoted", "parameters", "tags", "fields"]
+
+CALL = """INVITE sip:+33123456789@gw.example SIP/2.0
+v: SIP/2.0/UDP relay.example;branch=z9hG4bK7
+Max-Forwards: 70
+f: <sip:+33187654321@relay.example>;tag=a1
+t: <sip:+33123456789@gw.example>
+i: 9x@relay.example
+CSeq: 1 INVITE
+m: <sip:relay.example>
+Allow: INVITE, ACK, BYE
+X-Relay-Mode: text
+P-Asserted-Identity: <sip:+33187654321@relay.example>
+Privacy: id
+l: 0
+
+"""
+
+SDP = """v=0
+o=relay 3891201 3891201 IN IP4 192.0.2.10
+s=relay call
+c=IN IP4 192.0.2.10
+t=0 0
+m=audio 40000 RTP/AVP 8 101
+a=rtpmap:8 PCMA/8000
+a=rtpmap:101 telephone-event/8000
+a=fmtp:101 0-15
+a=ptime:20
+a=sendrecv
+m=text 40002 RTP/AVP 98 99
+a=rtpmap:98 t140/1000
+a=rtpmap:99 red/1000
+a=fmtp:99 98/98/98
+"""
+
+INVITE = """INVITE sip:+33123456789@gw.example:5060;user=phone SIP/2.0
+Via: SIP/2.0/UDP border.relay.example:5060;branch=z9hG4bK4b43c2ff8.1
+Via: SIP/2.0/UDP proxy.relay.example:5060;branch=z9hG4bK77ef4c2312983.1;received=192.0.2.2
+Via: SIP/2.0/UDP 192.0.2.10:5060;branch=z9hG4bKnashds8;rport=5060
+Record-Route: <sip:border.relay.example;lr>, <sip:proxy.relay.example;lr>
+Max-Forwards: 68
+From: "Relay Desk 4" <sip:+33187654321@relay.example;user=phone>;tag=1928301774
+To: <sip:+33123456789@gw.example;user=phone>
+Call-ID: a84b4c76e66710-3891201@192.0.2.10
+CSeq: 314159 INVITE
+Contact: <sip:+33187654321@192.0.2.10:5060;transport=udp>
+Allow: INVITE, ACK, BYE, CANCEL, OPTIONS, PRACK, UPDATE
+Supported: 100rel, timer, replaces
+Session-Expires: 1800;refresher=uac
+P-Asserted-Identity: "Relay Desk 4" <sip:+33187654321@relay.example>
+Privacy: id
+User-Agent: relay-desk/3.2
+X-Relay-Mode: text
+Accept: application/sdp
+Content-Type: application/sdp
+Content-Length: {length}
+
+"""
+
+PLAIN = {
+    "Via": "SIP/2.0/UDP a.example;branch=z9hG4bK7", "Max-Forwards": "70", "From": "<sip:+33187654321@a.example>;tag=1", "To": "<sip:+33123456789@b.example>",
+    "Call-ID": "x@a.example", "CSeq": "1 INVITE", "Contact": "<sip:a.example>", "Allow": "INVITE, ACK, BYE", "P-Asserted-Identity": "<sip:+33187654321@a.example>",
+    "Content-Length": "0",
+}
+
+
+def crlf(text):
+    return text.replace("\n", "\r\n")
+
+
+def built(fields):
+    lines = ["INVITE sip:+33123456789@b.example SIP/2.0"] + [f"{name}: {value}" for name, value in fields]
+    return "\r\n".join(lines) + "\r\n\r\n"
+
+
+def stretched(name, front, piece, back, length):
+    """The plain INVITE with one value made long, to exactly this length with the help of an ignored field."""
+    def with_times(times, fill):
+        fields = dict(PLAIN)
+        fields[name] = front + piece * times + back
+        return built(list(fields.items()) + [("X-Fill", "f" * fill)])
+    times = (length - len(with_times(0, 0))) // len(piece)
+    return with_times(times, length - len(with_times(times, 0)))
+
+
+def many_fields(length):
+    """96 fields; Supported values share what is left of the length."""
+    base = list(PLAIN.items())
+    more = 96 - len(base) - 1
+    share = (length - len(built(base + [("k", "x")] * more + [("X-Fill", "")]))) // more + 1
+    fields = base + [("k", "x" * max(share, 1))] * more
+    short = length - len(built(fields + [("X-Fill", "")]))
+    return built(fields + [("X-Fill", "f" * max(short, 0))])
+
+
+def shaped(shape, length):
+    if shape == "folds":
+        return stretched("Supported", "x", ",\r\n x", "", length)
+    if shape == "quoted":
+        return stretched("From", '"', '\\"', '" <sip:+33187654321@a.example>;tag=1', length)
+    if shape == "parameters":
+        return stretched("From", "<sip:+33187654321@a.example>", ";a=b", ";tag=1", length)
+    if shape == "tags":
+        return stretched("Require", "timer", ",timer", "", length)
+    return many_fields(length)
+
+
+def main():
+    if len(sys.argv) != 2:
+        sys.exit(__doc__)
+    folder = sys.argv[1]
+    os.makedirs(folder, exist_ok=True)
+    sdp = crlf(SDP)
+    messages = {"call": crlf(CALL), "invite": crlf(INVITE.format(length=len(sdp))) + sdp}
+    for shape in SHAPES:
+        for length in LENGTHS:
+            messages[f"{shape}-{length}"] = shaped(shape, length)
+    for name, text in messages.items():
+        with open(os.path.join(folder, name), "wb") as f:
+            f.write(text.encode("latin-1"))
+
+
+main()

@@ -1,0 +1,209 @@
+#!/usr/bin/env python3
+"""Writes the benchmark's result: report.py MESSAGES COUNTS DUMPS TIMES DOCS
+
+MESSAGES is the folder of messages, COUNTS what `measure count` printed, DUMPS the front of callgrind's dump files, TIMES what `measure
+time` printed, DOCS the folder of PERFORMANCE.md and performance.svg. The tables stand between the two marker lines of PERFORMANCE.md;
+the rest of that file stays as it is.
+"""
+import math
+import os
+import platform
+import subprocess
+import sys
+
+BEGIN = "<!-- bench/run writes from here -->"
+END = "<!-- bench/run writes up to here -->"
+NAMES = ["mishkolar", "second", "osip", "sofia"]
+TITLES = {"mishkolar": "Mishkolar", "second": "second", "osip": "libosip2", "sofia": "sofia-sip"}
+COLOURS = {"mishkolar": "#0b5fa5", "second": "#7a7a7a", "osip": "#c2571a", "sofia": "#2d7d46"}
+SHAPES = ["folds", "quoted", "parameters", "tags", "fields"]
+WORDS = {
+    "call": "the build description's call", "invite": "INVITE with a body", "folds": "folds", "quoted": "one quoted string", "parameters": "parameters",
+    "tags": "required tags", "fields": "96 fields",
+}
+LENGTHS = [1000, 2000, 3000, 4000, 6000, 8192]
+
+
+def said(*words):
+    """The first line that a command prints, or a dash."""
+    try:
+        return subprocess.run(words, stdout=subprocess.PIPE, stderr=subprocess.DEVNULL, text=True).stdout.splitlines()[0].strip()
+    except (OSError, IndexError):
+        return "-"
+
+
+def instructions(dump):
+    with open(dump) as f:
+        for line in f:
+            if line.startswith("summary:"):
+                return int(line.split()[1])
+    sys.exit(f"{dump} has no summary")
+
+
+def read(counts, dumps, times):
+    """Instructions and nanoseconds by message and implementation; None where the message is not taken."""
+    result = {}
+    for file, key in ((counts, "instructions"), (times, "nanoseconds")):
+        with open(file) as f:
+            for line in f:
+                path, name, taken, number = line.split()
+                message = os.path.basename(path)
+                number = instructions(f"{dumps}.{number}") if key == "instructions" else int(number)
+                result[(message, name, key)] = number if taken == "1" else None
+    return result
+
+
+def number(value):
+    return "refused" if value is None else f"{value:,}"
+
+
+def ratio(result, message, name, key):
+    own, other = result[(message, "mishkolar", key)], result[(message, name, key)]
+    return "-" if not own or other is None else f"{other / own:.2f}"
+
+
+def order():
+    return ["call", "invite"] + [f"{shape}-{length}" for shape in SHAPES for length in LENGTHS]
+
+
+def table(result, folder, key):
+    lines = [
+        "| Message | Bytes | " + " | ".join(TITLES[name] for name in NAMES) + " | Mishkolar for each byte | second / M. | libosip2 / M. | sofia-sip / M. |",
+        "|---|--:|" + "--:|" * 8,
+    ]
+    for message in order():
+        size = os.path.getsize(os.path.join(folder, message))
+        cells = [WORDS[message.split("-")[0]], f"{size:,}"]
+        cells += [number(result[(message, name, key)]) for name in NAMES]
+        own = result[(message, "mishkolar", key)]
+        cells.append("-" if own is None else f"{own / size:.1f}")
+        cells += [ratio(result, message, name, key) for name in NAMES[1:]]
+        lines.append("| " + " | ".join(cells) + " |")
+    return lines
+
+
+def package(name):
+    return said("dpkg-query", "-W", "-f", "${Version}", name)
+
+
+def machine():
+    model = "-"
+    with open("/proc/cpuinfo") as f:
+        for line in f:
+            if line.startswith("model name"):
+                model = line.split(":", 1)[1].strip()
+                break
+    load = " ".join(f"{value:.1f}" for value in os.getloadavg())
+    return [
+        f"Machine: {model}, {os.cpu_count()} processors, {platform.system()} {platform.release()}; load {load} at the end of the run.",
+        f"Tools: {said('cc', '--version')}; {said('rustc', '--version')}; {said('valgrind', '--version')}; Rattle kit {said('rt', 'version')}.",
+        f"Beside it: libosip2 {package('libosip2-dev')}, sofia-sip {package('libsofia-sip-ua-dev')} (Debian's packages, as built there).",
+    ]
+
+
+def document(result, folder):
+    lines = [""] + machine()
+    lines += ["", "Instructions of one screening (or one parsing and writing), counted by callgrind inside the measured function:", ""]
+    lines += table(result, folder, "instructions")
+    lines += ["", "Nanoseconds, the median of 201 batches of at least 50 microseconds each:", ""]
+    lines += table(result, folder, "nanoseconds")
+    return lines + [""]
+
+
+def put_between_markers(path, lines):
+    with open(path) as f:
+        text = f.read()
+    if text.count(BEGIN) != 1 or text.count(END) != 1:
+        sys.exit(f"{path} lacks its two marker lines")
+    before, rest = text.split(BEGIN)
+    after = rest.split(END)[1]
+    with open(path, "w") as f:
+        f.write(before + BEGIN + "\n" + "\n".join(lines) + "\n" + END + after)
+
+
+# The plot: one panel for each shape, one line for each implementation, both axes from the smallest to the largest number met.
+
+PANEL_WIDTH, PANEL_HEIGHT, LEFT, TOP, GAP_X, GAP_Y = 270, 190, 60, 60, 70, 70
+
+
+class Axes:
+    def __init__(self, column, row, low, high):
+        self.x0 = LEFT + column * (PANEL_WIDTH + GAP_X)
+        self.y0 = TOP + row * (PANEL_HEIGHT + GAP_Y)
+        self.low, self.high = math.log10(low), math.log10(high)
+
+    def x(self, length):
+        return self.x0 + length / 8500 * PANEL_WIDTH
+
+    def y(self, value):
+        return self.y0 + PANEL_HEIGHT - (math.log10(value) - self.low) / (self.high - self.low) * PANEL_HEIGHT
+
+
+def text(x, y, words, anchor="middle", size=12, colour="#222222", weight="normal"):
+    return f'<text x="{x:.1f}" y="{y:.1f}" text-anchor="{anchor}" font-size="{size}" fill="{colour}" font-weight="{weight}">{words}</text>'
+
+
+def line(x1, y1, x2, y2, colour="#cccccc", width=1):
+    return f'<line x1="{x1:.1f}" y1="{y1:.1f}" x2="{x2:.1f}" y2="{y2:.1f}" stroke="{colour}" stroke-width="{width}"/>'
+
+
+def panel(axes, shape, points):
+    out = [text(axes.x0 + PANEL_WIDTH / 2, axes.y0 - 8, WORDS[shape], weight="bold", size=13)]
+    power = math.floor(axes.low)
+    while power <= axes.high:
+        for step in (1, 2, 5):
+            value = step * 10 ** power
+            if axes.low <= math.log10(value) <= axes.high:
+                out.append(line(axes.x0, axes.y(value), axes.x0 + PANEL_WIDTH, axes.y(value)))
+                label = f"{value / 1e6:g} M" if value >= 1e6 else f"{value / 1e3:g} k"
+                out.append(text(axes.x0 - 6, axes.y(value) + 4, label, "end", 11))
+        power += 1
+    for length in (0, 2000, 4000, 6000, 8000):
+        out.append(line(axes.x(length), axes.y0 + PANEL_HEIGHT, axes.x(length), axes.y0 + PANEL_HEIGHT + 4, "#555555"))
+        out.append(text(axes.x(length), axes.y0 + PANEL_HEIGHT + 18, f"{length:,}", size=11))
+    out.append(line(axes.x0, axes.y0 + PANEL_HEIGHT, axes.x0 + PANEL_WIDTH, axes.y0 + PANEL_HEIGHT, "#555555"))
+    for name, values in points.items():
+        places = " ".join(f"{axes.x(length):.1f},{axes.y(value):.1f}" for length, value in values)
+        width = 2.5 if name == "mishkolar" else 1.5
+        out.append(f'<polyline points="{places}" fill="none" stroke="{COLOURS[name]}" stroke-width="{width}"/>')
+        out += [f'<circle cx="{axes.x(length):.1f}" cy="{axes.y(value):.1f}" r="{width + 0.5}" fill="{COLOURS[name]}"/>' for length, value in values]
+    return out
+
+
+def plot(result, path):
+    points = {}
+    for shape in SHAPES:
+        points[shape] = {}
+        for name in NAMES:
+            values = [(length, result[(f"{shape}-{length}", name, "instructions")]) for length in LENGTHS]
+            points[shape][name] = [(length, value) for length, value in values if value]
+    every = [value for lines in points.values() for values in lines.values() for _, value in values]
+    low, high = min(every) / 1.3, max(every) * 1.3
+    width, height = LEFT + 3 * PANEL_WIDTH + 2 * GAP_X + 30, TOP + 2 * PANEL_HEIGHT + GAP_Y + 50
+    out = [
+        f'<svg xmlns="http://www.w3.org/2000/svg" width="{width}" height="{height}" viewBox="0 0 {width} {height}" font-family="sans-serif">',
+        f'<rect width="{width}" height="{height}" fill="#ffffff"/>',
+        text(width / 2, 24, "Instructions of one call against the length of the message in bytes (logarithmic upwards)", size=15),
+    ]
+    for place, shape in enumerate(SHAPES):
+        out += panel(Axes(place % 3, place // 3, low, high), shape, points[shape])
+    corner = Axes(2, 1, low, high)
+    for place, name in enumerate(NAMES):
+        y = corner.y0 + 30 + place * 26
+        out.append(line(corner.x0 + 20, y, corner.x0 + 60, y, COLOURS[name], 3))
+        out.append(text(corner.x0 + 70, y + 4, TITLES[name], "start", 13))
+    out.append("</svg>")
+    with open(path, "w") as f:
+        f.write("\n".join(out) + "\n")
+
+
+def main():
+    if len(sys.argv) != 6:
+        sys.exit(__doc__)
+    folder, counts, dumps, times, docs = sys.argv[1:]
+    result = read(counts, dumps, times)
+    put_between_markers(os.path.join(docs, "PERFORMANCE.md"), document(result, folder))
+    plot(result, os.path.join(docs, "performance.svg"))
+
+
+main()

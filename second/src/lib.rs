@@ -1,0 +1,91 @@
+//! A second, plain implementation of the request screen, written from the build description alone ("the page").
+//! It works value by value on canonical copies, allocates freely, and serves as a check of the proved one.
+//!
+//! Standard library only. From the repository:
+//!
+//! - `cargo test --manifest-path second/Cargo.toml` runs its own tests and holds the stored cases to what it answers today.
+//! - `second screen [side] [room]` screens one message from standard input and prints what the page's screening program prints.
+//! - `second record` writes the recorded cases: for each the side (1 byte), the room and the length (2 bytes each, high byte first),
+//!   then the message.
+//! - `second cases` reads such cases and prints for each one line: reason, reply, detail, missing count, length, and the Adler-32 sum of
+//!   the whole buffer, which was filled with A5 (hex) before.
+//! - `second/regenerate` stores the cases and those lines as crates/vectors/stdin and crates/vectors/stdout.
+//!
+//! `drafts` and `recorded` make messages; all other modules are the implementation.
+
+pub mod address;
+pub mod causes;
+pub mod classes;
+pub mod drafts;
+pub mod judge;
+pub mod lines;
+pub mod output;
+pub mod profile;
+pub mod readings;
+pub mod recorded;
+pub mod uri;
+pub mod values;
+
+pub use causes::{cause_of_status, status_of_cause};
+pub use readings::{calling_number, count, reading};
+
+/// "The verdict is a choice: accepted with its length, or refused with those numbers."
+#[derive(Clone, Copy, Debug, PartialEq, Eq)]
+pub enum Verdict {
+    Accepted(usize),
+    Refused(Refusal),
+}
+
+#[derive(Clone, Copy, Debug, PartialEq, Eq)]
+pub struct Refusal {
+    pub reason: u64,
+    pub reply: u64,
+    pub detail: u64,
+    pub missing: u64,
+}
+
+impl Verdict {
+    /// "The answer has reason, reply, detail, missing count and length; each is 0 where not said."
+    pub fn numbers(&self) -> [u64; 5] {
+        match self {
+            Verdict::Accepted(length) => [0, 0, 0, 0, *length as u64],
+            Verdict::Refused(r) => [r.reason, r.reply, r.detail, r.missing, 0],
+        }
+    }
+}
+
+/// A part of the message or of the trunk number. An empty one is (false, 0, 0).
+#[derive(Clone, Copy, Debug, PartialEq, Eq)]
+pub struct Part {
+    pub from_trunk: bool,
+    pub start: usize,
+    pub length: usize,
+}
+
+/// "The job": accepts or refuses, and writes the outgoing message into the lent buffer.
+/// "No refusal writes to the buffer"; "Buffer bytes past the length stay".
+pub fn screen(message: &[u8], side: u64, out: &mut [u8]) -> Verdict {
+    let passed = match judge::judge(message, side) {
+        Ok(passed) => passed,
+        Err(refusal) => return Verdict::Refused(refusal),
+    };
+    let outgoing = output::message(&passed, side);
+    if outgoing.len() > out.len() {
+        return Verdict::Refused(judge::refusal(16, outgoing.len() as u64, 0, &passed.method));
+    }
+    out[..outgoing.len()].copy_from_slice(&outgoing);
+    Verdict::Accepted(outgoing.len())
+}
+
+/// `reading` as a slice of the message.
+pub fn reading_slice(message: &[u8], number: u64, place: u64) -> &[u8] {
+    let (start, length) = reading(message, number, place);
+    &message[start..start + length]
+}
+
+/// `calling_number` as a slice of the message or of the trunk number.
+pub fn calling_slice<'a>(message: &'a [u8], trunk: &'a [u8]) -> &'a [u8] {
+    let part = calling_number(message, trunk);
+    let whole = if part.from_trunk { trunk } else { message };
+    &whole[part.start..part.start + part.length]
+}

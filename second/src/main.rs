@@ -1,0 +1,89 @@
+//! `second screen [side] [room]`: one message from standard input.
+//! `second record`: writes the recorded cases to standard output.
+//! `second cases`: recorded cases from standard input, one line for each.
+
+use std::io::{self, Read, Write};
+use std::process::exit;
+
+use second::{screen, Verdict};
+
+const FILLING: u8 = 0xA5;
+
+fn main() {
+    let words: Vec<String> = std::env::args().skip(1).collect();
+    let done = match words.first().map(String::as_str) {
+        Some("screen") => run_screen(&words[1..]),
+        Some("record") => io::stdout().write_all(&second::recorded::file()).map_err(|e| e.to_string()),
+        Some("cases") => run_cases(),
+        _ => Err("use: second screen [side] [room] | second record | second cases".to_string()),
+    };
+    if let Err(what) = done {
+        eprintln!("{what}");
+        exit(2);
+    }
+}
+
+fn standard_input() -> Result<Vec<u8>, String> {
+    let mut bytes = Vec::new();
+    io::stdin().read_to_end(&mut bytes).map_err(|e| e.to_string())?;
+    Ok(bytes)
+}
+
+fn number(words: &[String], place: usize, otherwise: u64) -> Result<u64, String> {
+    match words.get(place) {
+        Some(word) => word.parse().map_err(|_| format!("not a number: {word}")),
+        None => Ok(otherwise),
+    }
+}
+
+/// "It prints reason, reply, detail and missing count with single spaces and LF, then the output."
+fn run_screen(words: &[String]) -> Result<(), String> {
+    let side = number(words, 0, 1)?;
+    let room = number(words, 1, 9216)?;
+    let message = standard_input()?;
+    let mut buffer = vec![FILLING; room as usize];
+    let verdict = screen(&message, side, &mut buffer);
+    let [reason, reply, detail, missing, length] = verdict.numbers();
+    let mut text = format!("{reason} {reply} {detail} {missing}\n").into_bytes();
+    text.extend(&buffer[..length as usize]);
+    io::stdout().write_all(&text).map_err(|e| e.to_string())
+}
+
+fn run_cases() -> Result<(), String> {
+    let file = standard_input()?;
+    let mut place = 0;
+    let mut out = io::BufWriter::new(io::stdout().lock());
+    while place < file.len() {
+        let (side, room, message, next) = one_case(&file, place).ok_or(format!("cut short at byte {place}"))?;
+        let line = case_line(side, room, message);
+        out.write_all(line.as_bytes()).map_err(|e| e.to_string())?;
+        place = next;
+    }
+    out.flush().map_err(|e| e.to_string())
+}
+
+/// Side, room, message and the place of the next case.
+fn one_case(file: &[u8], place: usize) -> Option<(u64, usize, &[u8], usize)> {
+    let head = file.get(place..place + 5)?;
+    let room = usize::from(head[1]) * 256 + usize::from(head[2]);
+    let length = usize::from(head[3]) * 256 + usize::from(head[4]);
+    let message = file.get(place + 5..place + 5 + length)?;
+    Some((u64::from(head[0]), room, message, place + 5 + length))
+}
+
+fn case_line(side: u64, room: usize, message: &[u8]) -> String {
+    let mut buffer = vec![FILLING; room];
+    let verdict: Verdict = screen(message, side, &mut buffer);
+    let [reason, reply, detail, missing, length] = verdict.numbers();
+    format!("{reason} {reply} {detail} {missing} {length} {}\n", digest(&buffer))
+}
+
+/// Adler-32, as RFC 1950 has it.
+fn digest(bytes: &[u8]) -> u64 {
+    let (mut low, mut high) = (1, 0);
+    for &byte in bytes {
+        low = (low + u64::from(byte)) % 65521;
+        high = (high + low) % 65521;
+    }
+    high * 65536 + low
+}

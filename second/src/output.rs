@@ -1,0 +1,68 @@
+//! The page's section "The outgoing message".
+
+use crate::address;
+use crate::judge::{Kept, Passed};
+use crate::profile;
+use crate::values;
+
+/// From's value up to the old tag, where the caller is withheld on side 1.
+const ANONYMOUS: &[u8] = b"\"Anonymous\" <sip:anonymous@anonymous.invalid>;tag=";
+
+/// "Start line, then the fields not ignored in message order; then the empty line and the body."
+pub fn message(passed: &Passed, side: u64) -> Vec<u8> {
+    let hide = side == 1 && passed.is_withheld();
+    let mut out = start_line(passed);
+    for field in &passed.fields {
+        // "P-Asserted-Identity is dropped"
+        if !(hide && field.number == 15) {
+            out.extend(line(field, passed, hide));
+        }
+    }
+    out.extend(b"\r\n");
+    out.extend(&passed.body);
+    out
+}
+
+fn start_line(passed: &Passed) -> Vec<u8> {
+    let mut out = passed.method.clone();
+    out.push(b' ');
+    out.extend(&passed.uri);
+    out.extend(b" SIP/2.0\r\n");
+    out
+}
+
+/// "long name as listed, colon, one space, canonical value, CRLF"
+fn line(field: &Kept, passed: &Passed, hide: bool) -> Vec<u8> {
+    let mut out = Vec::new();
+    if let Some(row) = profile::row_of_number(field.number) {
+        out.extend(row.name.as_bytes());
+    }
+    out.extend(b": ");
+    out.extend(value(field, passed, hide));
+    out.extend(b"\r\n");
+    out
+}
+
+fn value(field: &Kept, passed: &Passed, hide: bool) -> Vec<u8> {
+    match field.number {
+        2 => one_less(&field.value.bytes),
+        3 if hide => anonymous(&field.value.bytes),
+        8 => passed.body.len().to_string().into_bytes(),
+        _ => field.value.bytes.clone(),
+    }
+}
+
+/// "Max-Forwards is one less", "without leading zeros". Reason 13 kept 0 out.
+fn one_less(value: &[u8]) -> Vec<u8> {
+    let number = values::max_forwards(value).unwrap_or(1);
+    (number - 1).to_string().into_bytes()
+}
+
+/// The anonymous address "and the old tag".
+fn anonymous(value: &[u8]) -> Vec<u8> {
+    let mut out = ANONYMOUS.to_vec();
+    if let Some(tag) = address::address(value).and_then(|from| from.tag()) {
+        out.extend(tag);
+    }
+    out
+}

@@ -1,0 +1,135 @@
+/*
+ * A small UDP forwarder on loopback, for the live test: screens each request with libmishkolar.a and sends the outgoing message to the
+ * far side. A refused request is answered with the reply status, or not at all where that is 0. What comes from the far side goes
+ * back to the last caller as it is.
+ *
+ * use: forwarder SIDE OWN_PORT FAR_PORT
+ */
+#include <arpa/inet.h>
+#include <inttypes.h>
+#include <netinet/in.h>
+#include <stdio.h>
+#include <stdlib.h>
+#include <string.h>
+#include <sys/socket.h>
+#include <unistd.h>
+
+#include "mishkolar.h"
+
+#define MOST 65536
+#define ROOM 9216
+
+static uint8_t message[MOST];
+static uint8_t out[ROOM];
+static uint8_t answer[MOST];
+
+/* Adds bytes to the answer; what does not fit is left out. */
+static size_t put(size_t at, const void *bytes, size_t len)
+{
+    if (len > sizeof answer - at)
+        len = sizeof answer - at;
+    memcpy(answer + at, bytes, len);
+    return at + len;
+}
+
+static size_t put_text(size_t at, const char *text)
+{
+    return put(at, text, strlen(text));
+}
+
+/* Copies every field of that number from the request into the answer. */
+static size_t put_fields(size_t at, size_t len, uint64_t field, const char *name)
+{
+    uint64_t place;
+    uint64_t count = mishkolar_count(message, len, field);
+
+    for (place = 1; place <= count; place++) {
+        size_t start;
+        size_t part = mishkolar_reading(message, len, field, place, &start);
+        at = put_text(at, name);
+        at = put_text(at, ": ");
+        at = put(at, message + start, part);
+        at = put_text(at, "\r\n");
+    }
+    return at;
+}
+
+static const char *phrase(uint64_t status)
+{
+    switch (status) {
+    case 400: return "Bad Request";
+    case 405: return "Method Not Allowed";
+    case 416: return "Unsupported URI Scheme";
+    case 420: return "Bad Extension";
+    case 483: return "Too Many Hops";
+    case 484: return "Address Incomplete";
+    default: return "Server Internal Error";
+    }
+}
+
+/* The response to a refused request; its length. */
+static size_t refuse(size_t len, uint64_t status)
+{
+    char line[64];
+    size_t at;
+
+    snprintf(line, sizeof line, "SIP/2.0 %" PRIu64 " %s\r\n", status, phrase(status));
+    at = put_text(0, line);
+    at = put_fields(at, len, 1, "Via");
+    at = put_fields(at, len, 3, "From");
+    at = put_fields(at, len, 4, "To");
+    at = put_fields(at, len, 5, "Call-ID");
+    at = put_fields(at, len, 6, "CSeq");
+    return put_text(at, "Content-Length: 0\r\n\r\n");
+}
+
+static void on_loopback(struct sockaddr_in *address, const char *port)
+{
+    memset(address, 0, sizeof *address);
+    address->sin_family = AF_INET;
+    address->sin_addr.s_addr = htonl(INADDR_LOOPBACK);
+    address->sin_port = htons((uint16_t)atoi(port));
+}
+
+int main(int argc, char **argv)
+{
+    struct sockaddr_in own, far, caller, from;
+    uint64_t side;
+    int have_caller = 0;
+    int s;
+
+    if (argc != 4) {
+        fprintf(stderr, "use: %s SIDE OWN_PORT FAR_PORT\n", argv[0]);
+        return 2;
+    }
+    side = strtoull(argv[1], NULL, 10);
+    on_loopback(&own, argv[2]);
+    on_loopback(&far, argv[3]);
+    memset(&caller, 0, sizeof caller);
+    s = socket(AF_INET, SOCK_DGRAM, 0);
+    if (s < 0 || bind(s, (struct sockaddr *)&own, sizeof own) != 0) {
+        perror("forwarder");
+        return 1;
+    }
+    for (;;) {
+        socklen_t from_len = sizeof from;
+        uint64_t reason, reply, detail, missing;
+        size_t sent;
+        ssize_t n = recvfrom(s, message, sizeof message, 0, (struct sockaddr *)&from, &from_len);
+
+        if (n < 0)
+            continue;
+        if (from.sin_port == far.sin_port) {
+            if (have_caller)
+                sendto(s, message, (size_t)n, 0, (struct sockaddr *)&caller, sizeof caller);
+            continue;
+        }
+        caller = from;
+        have_caller = 1;
+        sent = mishkolar_screen(message, (size_t)n, side, out, sizeof out, &reason, &reply, &detail, &missing);
+        if (reason == 0)
+            sendto(s, out, sent, 0, (struct sockaddr *)&far, sizeof far);
+        else if (reply != 0)
+            sendto(s, answer, refuse((size_t)n, reply), 0, (struct sockaddr *)&caller, sizeof caller);
+    }
+}
