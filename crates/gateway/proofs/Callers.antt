@@ -14,19 +14,19 @@ use Rattle.sip.specs.Lines.{folded, unfoldedAt}
 use Rattle.values.specs.Answers.{identityAt}
 use Rattle.sip.specs.Profile.{columnOf, ignored}
 use Rattle.sip.specs.Values.{isGlobal, isIdentity}
-use Rattle.sip.specs.Refusals.{Answer, refusal, keptOf, valueOf, judged, refused, accepted, judgement}
+use Rattle.sip.specs.Refusals.{Answer, keptOf, valueOf, judged, refused, accepted, judgement}
 use Rattle.sip.specs.Readings.{part, noCalling, callerAt, callingAt, callingPart, callingNumber, readingAt, reading}
 use Rattle.sip.proofs.Canonical.{folded-le}
 use Rattle.sip.proofs.Firsts.{reading-length}
 use Rattle.sip.proofs.Calling.{identity-formed, identity-read, calling-part}
-use Rattle.lines.specs.declared.Message.{Message}
-use Rattle.lines.specs.Index.{message}
-use Rattle.gateway.specs.declared.Judged.{Judged}
-use Rattle.gateway.specs.Sets.{has}
-use Rattle.gateway.specs.Judges.{Reads, Passes, Judges, Identified}
+use Rattle.judgement.specs.declared.Judged.{Judged}
+use Rattle.judgement.specs.Sets.{has}
+use Rattle.judgement.specs.Judged.{judgedMessage}
+use Rattle.judgement.specs.Judges.{Passes}
+use Rattle.judgement.proofs.Messages.{judges}
+use Rattle.gateway.specs.Identities.{Identified}
 use Rattle.emit.specs.Put.{Wrote}
-use Rattle.gateway.proofs.Kept.{front}
-use Rattle.gateway.proofs.Answers.{not-opened}
+use Rattle.judgement.proofs.Kept.{front}
 
 module _ (m t : List ℕ) {x : CallingAt} (none-said : x ≡ noCalling) where
   pub bad-trunk : {b : Bool} → b ≡ isGlobal t → not b ≡ true → x ≡ callingAt m t
@@ -38,21 +38,16 @@ module _ (m t : List ℕ) {x : CallingAt} (none-said : x ≡ noCalling) where
     unfolding callingAt
     no-caller a e = none-said ∙ sym (rw (g, e))
 
-    pub refused-caller : {rest count : ℕ} {slots : List ℕ} {j : Judged} → Judges m rest count slots j → (j .refusal .reason ≡ 0 → ⊥) → x ≡ callingAt m t
-    refused-caller k n = no-caller _ (k .refuses n)
-
-  pub unread-caller : {b : Bool} → b ≡ isGlobal t → not b ≡ false → {r : Message} → r ≡ message m → (r .reason ≡ 0 → ⊥) → x ≡ callingAt m t
-  unfolding judgement
-  unread-caller {b} e f {r} q n =
-      let u = not-opened m q n in
-      no-caller (sym e ∙ not-false b f) (refusal (r .reason) 0 0 0) (rw u)
+  pub refused-caller : {b : Bool} → b ≡ isGlobal t → not b ≡ false → {j : Judged} → j ≡ judgedMessage m → (j .refusal .reason ≡ 0 → ⊥)
+      → x ≡ callingAt m t
+  refused-caller {b} e f k n = no-caller (sym e ∙ not-false b f) _ (judges m k refl .refuses n)
 
 pub good-trunk : (t : List ℕ) {b : Bool} → b ≡ isGlobal t → not b ≡ false → isGlobal t ≡ true
 good-trunk t {b} e f = sym e ∙ not-false b f
 
 -- ---- an accepted message
 
-reading-judged : (m : List ℕ) {rest count : ℕ} {slots : List ℕ} {j : Judged} (p : Passes m rest count slots j)
+reading-judged : (m : List ℕ) {slots : List ℕ} {j : Judged} (p : Passes m slots j)
     → judged (p .request .line) (keptOf (p .request .line) (p .header .fields)) (p .header .rest) ≡ accepted (p .request)
 unfolding judgement
 reading-judged m p = let e : judgement m ≡ accepted (p .request) = p .is-accepted in rw (p .is-read) at e
@@ -61,10 +56,9 @@ flip : (c : Bool) {b : Bool} → b ≡ not c → c ≡ not b
 flip true e = rw e
 flip false e = rw e
 
-pub identified : {m : List ℕ} {method uri rest count : ℕ} {slots : List ℕ} {j : Judged} → Reads m method uri rest count slots
-    → Judges m rest count slots j → j .refusal .reason ≡ 0 → Identified m (j .kept)
-identified {m} {j = j} r k z =
-    let p = k .accepts z in
+pub identified : (m : List ℕ) {j : Judged} → j ≡ judgedMessage m → j .refusal .reason ≡ 0 → Identified m (j .kept)
+identified m {j} e z =
+    let p = judges m e refl .accepts z in
     let l = p .request .line in
     let judged-is : judged l (keptOf l (p .header .fields)) (p .header .rest) ≡ accepted (p .request) = reading-judged m p in
     let i : ignored (columnOf (l .method) false) 15 ≡ not (has (j .kept) 15) = flip (ignored (columnOf (l .method) false) 15) (p .kept-is 15) in
@@ -75,7 +69,7 @@ identified {m} {j = j} r k z =
       identity-formed =
           λ v e. identity-formed m l (p .header) (p .is-read) (p .request) judged-is v (ap (valueOf 15) (sym (p .fields-kept)) ∙ e);
       reading-long = reading-length m l (p .header) (p .is-read) 15 (omega arith);
-      short = r .short;
+      short = p .short;
     }
 
 module _ (m t : List ℕ) (g : isGlobal t ≡ true) {kept : ℕ} (d : Identified m kept) where

@@ -18,8 +18,8 @@ use Rattle.sip.proofs.Tests.{and-right}
 use Rattle.lines.specs.declared.Slot.{Slot}
 use Rattle.lines.specs.Index.{slotAt}
 use Rattle.gateway.specs.declared.Sending.{Sending}
-use Rattle.gateway.specs.Sets.{has}
-use Rattle.gateway.specs.Entries.{valueAt, entryAt, entriesFrom}
+use Rattle.judgement.specs.Sets.{has}
+use Rattle.judgement.specs.Entries.{valueAt, entryAt, entriesFrom}
 use Rattle.gateway.specs.Sending.{Tells, Told, also}
 use Rattle.gateway.specs.Sent.{lineOf}
 

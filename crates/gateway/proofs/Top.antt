@@ -1,177 +1,191 @@
--- From what was read and judged to the whole answer: the text that is written is the outgoing message.
+-- From what judging found to the whole answer: the text that is written is the outgoing message.
 use mathlib.Core.Path.{_≡_, refl, sym, ap, _∙_}
 use mathlib.Core.Bool.{Bool, true, false, cond, _&&_}
-use mathlib.Core.List.{List, _∷_, _++_, append-assoc}
+use mathlib.Core.List.{List, [], _∷_, _++_, append-assoc}
 use Prim.Native.Nat.{ℕ, _+_, _-_, _≤_, _<_}
 use native.Mathlib.Omega.{arith}
-use lib.Dec.{eqb}
+use lib.Dec.{eqb, leb}
 use lib.ListN.{length, take, drop, length-append, length-drop}
 use lib.Seq.{length-take-le}
+use borrow.Author.Tests.{le-leb, lt-leb, leb-true, leb-false}
 use Rattle.octets.specs.Classes.{text}
 use Rattle.octets.specs.Scans.{same}
-use Rattle.sip.specs.Lines.{Start, crlf}
-use Rattle.sip.specs.Refusals.{refusal, replied, lines, read, Entry, withheld}
+use Rattle.sip.specs.Lines.{crlf}
+use Rattle.sip.specs.Refusals.{refusal, replied, Entry, withheld}
 use Rattle.sip.specs.Output.{startLine, fieldLines, output}
-use Rattle.sip.specs.Screen.{Screened, refusing, masks, screened}
-use Rattle.lines.specs.declared.Message.{Message}
-use Rattle.lines.specs.Index.{message}
+use Rattle.sip.specs.Screen.{Screened, refusing, sending, masks, screened}
+use Rattle.sip.proofs.Growth.{growth}
 use Rattle.emit.specs.Put.{Wrote}
-use Rattle.emit.proofs.Laws.{put-front}
-use Rattle.gateway.specs.declared.Judged.{Judged}
-use Rattle.gateway.specs.declared.Refusal.{Refusal}
+use Rattle.emit.proofs.Laws.{put-front, wrote-room}
+use Rattle.judgement.specs.declared.Judged.{Judged}
+use Rattle.judgement.specs.declared.Refusal.{Refusal}
+use Rattle.judgement.specs.Entries.{entriesFrom}
+use Rattle.judgement.specs.Judged.{judgedMessage}
+use Rattle.judgement.specs.Judges.{Told as JudgedTold, nothing as nothing-judged, also as also-judged, Passes}
+use Rattle.judgement.proofs.Messages.{judges}
+use Rattle.judgement.proofs.Parts.{parts}
+use Rattle.lines.specs.Index.{index}
 use Rattle.gateway.specs.declared.Sending.{Sending}
 use Rattle.gateway.specs.declared.Verdict.{Verdict}
 use Rattle.gateway.specs.declared.Verdict.the-variants.{Accepted, Refused}
-use Rattle.gateway.specs.Entries.{entriesFrom}
-use Rattle.gateway.specs.Sending.{Told}
+use Rattle.gateway.specs.Sending.{Told, nothing, also, sendingOf}
+use Rattle.gateway.specs.Sent.{sentMessage}
 use Rattle.gateway.specs.Verdicts.{numbersOf}
-use Rattle.gateway.specs.Judges.{Reads, Passes, Judges}
-use Rattle.gateway.proofs.Parts.{parts}
-use Rattle.gateway.proofs.Answers.{opened, not-opened, other-side, answer-refused, answer-unread, answer-full, answer-sent}
+use Rattle.gateway.proofs.Answers.{other-side, answer-refused, answer-full, answer-sent}
 
--- a message that was read, with its parts
-pub reads : (m : List ℕ) {r : Message} → r ≡ message m → r .reason ≡ 0 → Reads m (r .method) (r .uri) (r .rest) (r .count) (r .slots)
-reads m e z =
-    let o = opened m e z in
-    let p = parts m (o .line) (o .head) (o .lines-read) in
-    rw (o .answer)
-    (record {
-      line = o .line;
-      header = o .head;
-      is-read = o .lines-read;
-      method-long = refl;
-      uri-long = refl;
-      rest-long = refl;
-      few = p .count-le;
-      short = p .read-as .bytes-le;
-      method-is = p .read-as .method-part;
-      uri-is = p .read-as .uri-part;
-      rest-is = p .read-as .rest-part;
-      slots-hold = p .entries;
-    })
+-- ---- what the writer is told
 
--- what is written for it, where it passes: the bytes before the version, the version, the lines of the kept fields, the empty line, the body
-abbrev pub sent : List ℕ → ℕ → ℕ → Bool → ℕ → List Entry → List ℕ
-sent m before rest masked body es =
-    (take before m ++ text " SIP/2.0\r\n") ++ (fieldLines masked body es ++ (crlf ++ take body (drop rest m)))
+told-each : (w : Sending) (es : List Entry) → JudgedTold (w .hops) (w .tag) es → Told w es
+told-each w [] t = nothing
+told-each w (e ∷ es) (also-judged x t) =
+    also (record { hops = x .hops-are; tag = x .tag-is; tag-within = x .tag-within }) (told-each w es t)
 
-module _ (m : List ℕ) {rest count : ℕ} {slots : List ℕ} {j : Judged} (p : Passes m rest count slots j) where
-  line-before : take (length (p .request .line .method) + 1 + length (p .request .line .uri)) m
-      ≡ p .request .line .method ++ 32 ∷ p .request .line .uri
-  line-before = parts m (p .request .line) (p .header) (p .is-read) .read-as .line-part
+module _ (m slots : List ℕ) {j : Judged} (p : Passes m slots j) where
+  abbrev before : ℕ
+  before = j .method + 1 + j .uri
+
+  abbrev es : List Entry
+  es = entriesFrom (j .kept) m slots (j .count) 0
+
+  pub told : (masked : Bool) {w : Sending} → w ≡ sendingOf masked j → Told w es
+  told masked e = rw (e, ← p .fields-held) (told-each (sendingOf masked j) (p .request .fields) (p .told))
+
+  -- ---- the outgoing message
+
+  line-before : take before m ≡ p .request .line .method ++ 32 ∷ p .request .line .uri
+  line-before = rw (p .method-long, p .uri-long) (parts m (p .request .line) (p .header) (p .is-read) .read-as .line-part)
+
+  body-size : length (take (j .body) (drop (j .rest) m)) ≡ j .body
+  body-size = length-take-le (j .body) (drop (j .rest) m) (rw (length-drop (j .rest) m) (p .body-there))
 
   body-long : length (p .request .body) ≡ j .body
-  body-long = rw (p .body-is) (length-take-le (j .body) (drop rest m) (rw (length-drop rest m) (p .body-there)))
+  body-long = rw (p .body-is) body-size
 
-  pub sent-output : (masked : Bool)
-      → sent m (length (p .request .line .method) + 1 + length (p .request .line .uri)) rest masked (j .body) (entriesFrom (j .kept) m slots count 0)
-      ≡ output masked (p .request)
-  unfolding output startLine
+  sent-output : (masked : Bool) → sentMessage m slots j masked ≡ output masked (p .request)
+  unfolding sentMessage output startLine
   sent-output masked =
       let l = p .request .line in
-      let start : take (length (l .method) + 1 + length (l .uri)) m ++ text " SIP/2.0\r\n" ≡ l .method ++ 32 ∷ (l .uri ++ text " SIP/2.0\r\n")
-      = rw (line-before, append-assoc (l .method) (32 ∷ l .uri) (text " SIP/2.0\r\n")) in
-      rw (start, ← p .fields-held, ← p .body-is, body-long)
+      let version : List ℕ = text " SIP/2.0\r\n" in
+      let start : take before m ++ version ≡ l .method ++ 32 ∷ (l .uri ++ version) = rw (line-before, append-assoc (l .method) (32 ∷ l .uri) version) in
+      let lines : List ℕ = fieldLines masked (j .body) es ++ (crlf ++ take (j .body) (drop (j .rest) m)) in
+      sym (append-assoc (take before m) version lines) ∙ rw (start, ← p .fields-held, ← p .body-is, body-long)
 
-  -- the line that was read is the request's
-  pub line-is : {method uri : ℕ} (r : Reads m method uri rest count slots) → r .line ≡ p .request .line
-  line-is r = let e : read (r .line) (r .header) ≡ read (p .request .line) (p .header) = sym (r .is-read) ∙ p .is-read in cc
+  sent-parts : (masked : Bool)
+      → length (sentMessage m slots j masked)
+      ≡ length (take before m) + (10 + (length (fieldLines masked (j .body) es) + (2 + length (take (j .body) (drop (j .rest) m)))))
+  unfolding sentMessage text
+  sent-parts masked =
+      let lines : List ℕ = fieldLines masked (j .body) es in
+      let last : List ℕ = take (j .body) (drop (j .rest) m) in
+      omega
+      (arith, length-append (take before m) (text " SIP/2.0\r\n" ++ (lines ++ (crlf ++ last))), length-append lines (crlf ++ last))
 
-  pub same-line : {method uri : ℕ} → Reads m method uri rest count slots
-      → (method ≡ length (p .request .line .method)) × (uri ≡ length (p .request .line .uri))
-  same-line r =
-      let l : r .line ≡ p .request .line = line-is r in
-      (r .method-long ∙ ap (λ (x : Start). length (x .method)) l, r .uri-long ∙ ap (λ (x : Start). length (x .uri)) l)
+  pub sent-long : (masked : Bool) {w : Sending} → w ≡ sendingOf masked j → {fields : ℕ} → fields ≡ length (fieldLines (w .masked) (w .body) es)
+      → {len : ℕ} → len ≡ before + 10 + fields + 2 + j .body → len ≡ length (sentMessage m slots j masked)
+  sent-long masked {w} ew {fields} f a =
+      let g : fields ≡ length (fieldLines masked (j .body) es) = f ∙ rw ew in
+      omega (arith, sent-parts masked, body-size, length-take-le before m (p .line-within))
 
--- ---- reason 16, or the outgoing message
+  module _ (masked : Bool) {w : Sending} (ew : w ≡ sendingOf masked j) where
+    pub sent-room : (d : List ℕ) → length (sentMessage m slots j masked) ≤ length d → {n : ℕ}
+        → n ≡ length (take before m) + (10 + (length (fieldLines (w .masked) (w .body) es) + (2 + length (take (w .body) (drop (j .rest) m)))))
+        → n ≤ length d
+    sent-room d l q = omega (arith, sent-parts masked, rw ew at q)
 
-pub told : (m : List ℕ) {rest count : ℕ} {slots : List ℕ} {j : Judged} → Passes m rest count slots j → {w : Sending}
-    → w .hops ≡ j .hops → w .tag ≡ j .tag → Told w (entriesFrom (j .kept) m slots count 0)
-told m p {w} h t = rw (← p .fields-held) (p .told w h t)
+    pub sent-wrote : {d d′ : List ℕ} {n : ℕ}
+        → Wrote d 0
+        (take before m ++ (text " SIP/2.0\r\n" ++ (fieldLines (w .masked) (w .body) es ++ (crlf ++ take (w .body) (drop (j .rest) m))))) n d′
+        → Wrote d 0 (sentMessage m slots j masked) n d′
+    unfolding sentMessage
+    sent-wrote x = rw ew at x
 
-module _ (m : List ℕ) (side : ℕ) {method uri rest count : ℕ} {slots : List ℕ} {j : Judged}
-    (r : Reads m method uri rest count slots) (p : Passes m rest count slots j) (low : method + 1 + uri ≤ length m)
-    {masked : Bool} (mask : masked ≡ (eqb side 1 && j .withheld))
-  where
-    sent-is : sent m (method + 1 + uri) rest masked (j .body) (entriesFrom (j .kept) m slots count 0) ≡ output (masks side (p .request)) (p .request)
+  module _ (masked : Bool) (room : ℕ) where
+    abbrev long : ℕ
+    long = length (sentMessage m slots j masked)
+
+    grows : long < length m + 1024
+    grows = rw (sent-output masked) (growth m (p .request) masked (p .is-accepted))
+
+    pub surely-fits : {k : ℕ} → k ≡ length m + 1024 → k ≤ room → 0 ≡ cond (leb long room) 0 long
+    surely-fits e l = rw (le-leb long room (omega (arith, grows)))
+
+    module _ {len : ℕ} (q : len ≡ long) where
+      pub just-fits : len ≤ room → 0 ≡ cond (leb long room) 0 long
+      just-fits l = rw (le-leb long room (omega arith))
+
+      pub too-large : room < len → len ≡ cond (leb long room) 0 long
+      too-large l = q ∙ sym (rw (lt-leb long room (omega arith)))
+
+  -- ---- reason 16, or the outgoing message
+
+  module _ (side : ℕ) (low : side ≤ 1) {masked : Bool} (mask : masked ≡ (eqb side 1 && j .withheld)) (d : List ℕ) where
+    sent-is : sentMessage m slots j masked ≡ output (masks side (p .request)) (p .request)
     unfolding masks
     sent-is =
-        let (a, b) = same-line m p r in
         let k : masked ≡ (eqb side 1 && withheld (p .request .fields)) = mask ∙ ap (λ (x : Bool). eqb side 1 && x) (sym (p .withheld-is)) in
-        rw (a, b, k) (sent-output m p (eqb side 1 && withheld (p .request .fields)))
+        rw k (sent-output (eqb side 1 && withheld (p .request .fields)))
 
-    body-size : length (take (j .body) (drop rest m)) ≡ j .body
-    body-size = length-take-le (j .body) (drop rest m) (rw (length-drop rest m) (p .body-there))
+    abbrev size : ℕ
+    size = length (sentMessage m slots j masked)
 
-    module _ {fields : ℕ} (size : fields ≡ length (fieldLines masked (j .body) (entriesFrom (j .kept) m slots count 0))) where
-      sent-long : length (sent m (method + 1 + uri) rest masked (j .body) (entriesFrom (j .kept) m slots count 0))
-          ≡ method + 1 + uri + 10 + fields + 2 + j .body
-      unfolding text
-      sent-long =
-          let lines : List ℕ = fieldLines masked (j .body) (entriesFrom (j .kept) m slots count 0) in
-          let last : List ℕ = take (j .body) (drop rest m) in
-          let a = length-append (take (method + 1 + uri) m ++ text " SIP/2.0\r\n") (lines ++ (crlf ++ last)) in
-          let b = length-append (take (method + 1 + uri) m) (text " SIP/2.0\r\n") in
-          let c = length-append lines (crlf ++ last) in
-          omega (arith, a, b, c, body-size, length-take-le (method + 1 + uri) m low, size)
+    module _ {lack : ℕ} (e : lack ≡ cond (leb size (length d)) 0 size) where
+      full : (lack ≡ 0 → ⊥) → (b : Bool) → leb size (length d) ≡ b → (lack ≡ size) × (length d < size)
+      full n true q = absurd (n (e ∙ rw q))
+      full n false q = (e ∙ rw q, leb-false size (length d) q)
 
-      output-long : length (output (masks side (p .request)) (p .request)) ≡ method + 1 + uri + 10 + fields + 2 + j .body
-      output-long = ap length (sym sent-is) ∙ sent-long
+      fits : lack ≡ 0 → (b : Bool) → leb size (length d) ≡ b → size ≤ length d
+      fits z true q = leb-true size (length d) q
+      fits z false q = let k : size ≡ 0 = rw q at (sym e ∙ z) in omega arith
 
-      module _ {len : ℕ} (all : len ≡ method + 1 + uri + 10 + fields + 2 + j .body) (d : List ℕ) (h : side ≤ 1) where
-        long-is : len ≡ length (output (masks side (p .request)) (p .request))
-        long-is = all ∙ sym output-long
+      module _ (n : lack ≡ 0 → ⊥) where
+        full-is : screened m side d ≡ refusing (replied (p .request .line) (refusal 16 500 lack 0)) d
+        full-is =
+            let (a, b) = full n (leb size (length d)) refl in
+            rw (a, sent-is) (answer-full m side d low (p .request) (p .is-accepted) (rw sent-is at b))
 
-        full-is : length d < len
-            → screened m side d ≡ refusing (replied (p .request .line) (refusal 16 500 len 0)) d
-        full-is l =
-            rw long-is (answer-full m side d h (p .request) (p .is-accepted) (rw long-is at l))
+        pub full-buffer : d ≡ screened m side d .buffer
+        full-buffer = sym (ap (λ (s : Screened). s .buffer) full-is)
 
-        pub full-buffer : length d < len → d ≡ screened m side d .buffer
-        full-buffer l = sym (ap (λ (s : Screened). s .buffer) (full-is l))
-
-        pub full-answer : length d < len → {x : Refusal} {t : List ℕ} → t ≡ take method m → x .reason ≡ 16
-            → x .reply ≡ cond (same (text "ACK") t) 0 500 → x .detail ≡ len → x .missing ≡ 0 → numbersOf (Refused x) ≡ screened m side d .answer
+        pub full-answer : {x : Refusal} {t : List ℕ} → t ≡ take (j .method) m → x .reason ≡ 16
+            → x .reply ≡ cond (same (text "ACK") t) 0 500 → x .detail ≡ lack → x .missing ≡ 0 → numbersOf (Refused x) ≡ screened m side d .answer
         unfolding replied
-        full-answer l {x} {t} name a b c e =
-            let n : t ≡ p .request .line .method = name ∙ r .method-is ∙ ap (λ (y : Start). y .method) (line-is m p r) in
-            rw (a, b, c, e, n) (ack (same (text "ACK") (p .request .line .method)) ∙ sym (ap (λ (s : Screened). s .answer) (full-is l)))
+        full-answer {x} {t} name a b c f =
+            let k : t ≡ p .request .line .method = name ∙ p .method-is in
+            rw (a, b, c, f, k) (ack (same (text "ACK") (p .request .line .method)) ∙ sym (ap (λ (s : Screened). s .answer) full-is))
           where
-            ack : (y : Bool) → refusal 16 (cond y 0 500) len 0 ≡ cond y (refusal 16 0 len 0) (refusal 16 500 len 0)
+            ack : (y : Bool) → refusal 16 (cond y 0 500) lack 0 ≡ cond y (refusal 16 0 lack 0) (refusal 16 500 lack 0)
             ack true = refl
             ack false = refl
 
-        pub write-room : len ≤ length d → {n : ℕ}
-            → n
-            ≡ length (take (method + 1 + uri) m)
-            + (10 + (length (fieldLines masked (j .body) (entriesFrom (j .kept) m slots count 0)) + (2 + length (take (j .body) (drop rest m)))))
-            → n ≤ length d
-        write-room l e = omega (arith, body-size, length-take-le (method + 1 + uri) m low, size, all, e)
+      module _ (z : lack ≡ 0) where
+        pub write-room : size ≤ length d
+        write-room = fits z (leb size (length d)) refl
 
-        pub sent-answer : len ≤ length d → numbersOf (Accepted len) ≡ screened m side d .answer
-        sent-answer l =
-            rw long-is (sym (ap (λ (s : Screened). s .answer) (answer-sent m side d h (p .request) (p .is-accepted) (rw long-is at l))))
+        sent-all : screened m side d ≡ sending (output (masks side (p .request)) (p .request)) d
+        sent-all = answer-sent m side d low (p .request) (p .is-accepted) (rw sent-is at write-room)
 
-        pub sent-buffer : len ≤ length d → {n : ℕ} {d′ : List ℕ}
-            → Wrote d 0 (take (method + 1 + uri) m ++ (text " SIP/2.0\r\n" ++ (fieldLines masked (j .body) (entriesFrom (j .kept) m slots count 0) ++ (crlf ++ take (j .body) (drop rest m))))) n d′
-            → d′ ≡ screened m side d .buffer
-        sent-buffer l w =
-            let lines : List ℕ = fieldLines masked (j .body) (entriesFrom (j .kept) m slots count 0) in
-            let o : List ℕ = output (masks side (p .request)) (p .request) in
-            let same-text : take (method + 1 + uri) m ++ (text " SIP/2.0\r\n" ++ (lines ++ (crlf ++ take (j .body) (drop rest m)))) ≡ o
-            = sym (append-assoc (take (method + 1 + uri) m) (text " SIP/2.0\r\n") (lines ++ (crlf ++ take (j .body) (drop rest m)))) ∙ sent-is in
-            let room : length o ≤ length d = rw long-is at l in
-            w .holds ∙ rw same-text (put-front d o room) ∙ sym (ap (λ (s : Screened). s .buffer) (answer-sent m side d h (p .request) (p .is-accepted) room))
+        module _ {n : ℕ} {d′ : List ℕ} (w : Wrote d 0 (sentMessage m slots j masked) n d′) where
+          pub sent-answer : numbersOf (Accepted n) ≡ screened m side d .answer
+          sent-answer =
+              let k : n ≡ size = omega (arith, wrote-room w (omega (arith, write-room)) .0) in
+              rw (k, sent-is) (sym (ap (λ (s : Screened). s .answer) sent-all))
+
+          pub sent-buffer : d′ ≡ screened m side d .buffer
+          sent-buffer =
+              w .holds ∙ put-front d (sentMessage m slots j masked) write-room ∙ rw sent-is (sym (ap (λ (s : Screened). s .buffer) sent-all))
 
 -- ---- refusals before that
 
 module _ (m : List ℕ) (side : ℕ) (d : List ℕ) where
-  module _ {rest count : ℕ} {slots : List ℕ} {j : Judged} (g : Judges m rest count slots j) (h : side ≤ 1) (n : j .refusal .reason ≡ 0 → ⊥) where
+  module _ {j : Judged} (e : j ≡ judgedMessage m) (h : side ≤ 1) (n : j .refusal .reason ≡ 0 → ⊥) where
+    refused-is : screened m side d ≡ refusing (refusal (j .refusal .reason) (j .refusal .reply) (j .refusal .detail) (j .refusal .missing)) d
+    refused-is = answer-refused m side d h _ (judges m e refl .refuses n)
+
     pub refused-answer : numbersOf (Refused (j .refusal)) ≡ screened m side d .answer
-    refused-answer = sym (ap (λ (s : Screened). s .answer) (answer-refused m side d h _ (g .refuses n)))
+    refused-answer = sym (ap (λ (s : Screened). s .answer) refused-is)
 
     pub refused-buffer : d ≡ screened m side d .buffer
-    refused-buffer = sym (ap (λ (s : Screened). s .buffer) (answer-refused m side d h _ (g .refuses n)))
+    refused-buffer = sym (ap (λ (s : Screened). s .buffer) refused-is)
 
   module _ (h : 1 < side) where
     pub side-answer : (v : Verdict) → numbersOf v ≡ refusal 1 0 0 0 → numbersOf v ≡ screened m side d .answer
@@ -180,20 +194,6 @@ module _ (m : List ℕ) (side : ℕ) (d : List ℕ) where
     pub side-buffer : d ≡ screened m side d .buffer
     side-buffer = sym (ap (λ (s : Screened). s .buffer) (other-side m side d h))
 
-  module _ (h : side ≤ 1) {r : Message} (e : r ≡ message m) (n : r .reason ≡ 0 → ⊥) where
-    pub unread-answer : (v : Verdict) → numbersOf v ≡ refusal (r .reason) 0 0 0 → numbersOf v ≡ screened m side d .answer
-    unread-answer v k = k ∙ sym (ap (λ (s : Screened). s .answer) (answer-unread m side d h _ (not-opened m e n)))
-
-    pub unread-buffer : d ≡ screened m side d .buffer
-    unread-buffer = sym (ap (λ (s : Screened). s .buffer) (answer-unread m side d h _ (not-opened m e n)))
-
--- the start line lies within a message that was read
-pub line-within : (m : List ℕ) {r : Message} → r ≡ message m → r .reason ≡ 0 → {n : ℕ} → n ≡ r .method + 1 + r .uri → n ≤ length m
-line-within m e z k =
-    let o = opened m e z in
-    let p = parts m (o .line) (o .head) (o .lines-read) in
-    omega (arith, ap (λ (x : Message). x .method + 1 + x .uri) (o .answer), k, p .read-as .start-le)
-
 -- what judging says of a request that no reason up to 15 refuses
-pub passes : (m : List ℕ) {rest count : ℕ} {slots : List ℕ} {j : Judged} → Judges m rest count slots j → j .refusal .reason ≡ 0 → Passes m rest count slots j
-passes m g z = g .accepts z
+pub passes : (m : List ℕ) {j : Judged} → j ≡ judgedMessage m → {slots : List ℕ} → slots ≡ index m .slots → j .refusal .reason ≡ 0 → Passes m slots j
+passes m e s z = judges m e s .accepts z

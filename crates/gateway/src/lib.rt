@@ -1,9 +1,11 @@
 // The screen: judges a request, and writes the outgoing message into the lent buffer.
+use judgement::Judged;
+use judgement::Refusal;
 ghost use mathlib.Core.Path.{_≡_};
 ghost use mathlib.Core.Bool.{true, cond, _&&_};
 ghost use mathlib.Core.List.{_++_};
 ghost use Prim.Native.Nat.{_+_, _^_, _≤_, _<_};
-ghost use lib.Dec.{eqb};
+ghost use lib.Dec.{eqb, leb};
 ghost use lib.ListN.{length, take, drop};
 ghost use Rattle.octets.specs.Classes.{text};
 ghost use Rattle.octets.specs.Scans.{same};
@@ -14,67 +16,20 @@ ghost use Rattle.sip.specs.Readings.{part, noCalling, callerAt, callingAt, call
 ghost use Rattle.sip.specs.Screen.{screened};
 ghost use Rattle.sip.specs.Values.{isIdentity, isGlobal};
 ghost use Rattle.emit.specs.Put.{Wrote};
-ghost use Rattle.gateway.specs.Entries.{entriesFrom};
-ghost use Rattle.gateway.specs.Sending.{Told};
-ghost use Rattle.gateway.specs.Judges.{Reads, Passes, Identified};
+ghost use Rattle.judgement.specs.Entries.{entriesFrom};
+ghost use Rattle.judgement.specs.Judges.{Passes};
+ghost use Rattle.gateway.specs.Identities.{Identified};
+ghost use Rattle.gateway.specs.Sending.{Told, sendingOf};
+ghost use Rattle.gateway.specs.Sent.{sentMessage};
 ghost use Rattle.gateway.specs.Verdicts.{numbersOf};
 
-mod findings;
-mod judge;
+mod names;
 mod output;
-mod sets;
-mod tallies;
-
-// Why a request is refused: document 01's reason, reply, detail and missing count.
-pub struct Refusal {
-    pub reason: u64,
-    pub reply: u64,
-    pub detail: u64,
-    pub missing: u64,
-}
 
 // The verdict is a choice: accepted with its length, or refused with those numbers.
 pub enum Verdict {
     Accepted(usize),
     Refused(Refusal),
-}
-
-// The column of a method, the initial one for an INVITE.
-pub enum ColumnOf {
-    Is(sip::Column),
-    Unknown,
-}
-
-// Which mandatory fields are missing: how many, and the lowest number (0: none is).
-pub struct Lack {
-    pub count: u64,
-    pub lowest: u64,
-}
-
-// What is found in one kept value: whether it is well formed, and what later reasons ask of it.
-// Max-Forwards: len is what it says. To: flag: it has a tag. Privacy: flag: it withholds the caller.
-// From: where its tag stands. Content-Length: len is what it says. Require: start is the place of the first tag that we lack (0: none),
-// len the number of tags. P-Asserted-Identity: where its number stands.
-pub struct Finding {
-    pub good: bool,
-    pub flag: bool,
-    pub start: usize,
-    pub len: usize,
-}
-
-// What the kept fields say so far: the set of numbers seen; the first that came again, the first malformed one; what the first
-// Max-Forwards, To, Privacy, Content-Length and From say; the required tags counted, and the place of the first that we lack.
-pub struct Tally {
-    pub seen: u32,
-    pub again: usize,
-    pub malformed: usize,
-    pub hops: usize,
-    pub tagged: bool,
-    pub withheld: bool,
-    pub length: usize,
-    pub tags: usize,
-    pub lacking: usize,
-    pub tag: sip::Span,
 }
 
 // What of the outgoing message the kept values do not say by themselves: whether the caller is masked, what Max-Forwards says, the length
@@ -86,20 +41,20 @@ pub struct Sending {
     pub tag: sip::Span,
 }
 
-// A request that no reason up to 15 refuses (reason 0), or the refusal; what it keeps, what its Max-Forwards says, the length of its body, whether its caller is
-// withheld, and where the tag of its From stands.
-pub struct Judged {
-    pub refusal: Refusal,
-    pub kept: u32,
-    pub hops: usize,
-    pub body: usize,
-    pub withheld: bool,
-    pub tag: sip::Span,
+fn sending_of(j: Judged, masked: bool) -> Sending
+    ensures { λ r. ⌜ r ≡ sendingOf masked j ⌝ }
+{
+    let tag = j.tag;
+    Sending {
+        masked,
+        hops: j.hops,
+        body: j.body,
+        tag,
+    }
 }
 
-// The outgoing message at the front of the buffer, which has room for it: `before` bytes of the start line stand before the version, and
-// the body is at `rest`.
-fn write(
+// The start line, of which `before` bytes stand before the version, the lines of the kept fields, and the body, which is at `rest`.
+fn put_message(
     out: &mut [u8],
     message: &[u8],
     before: usize,
@@ -127,6 +82,47 @@ fn write(
     let fields = output::put_start(out, message, before);
     let end = output::put_lines(out, fields, message, kept, slots, count, w);
     output::put_body(out, end, message, rest, w.body)
+}
+
+// The outgoing message at the front of the buffer, which has room for it.
+fn write(out: &mut [u8], message: &[u8], slots: &[u16; 384], j: Judged, masked: bool) -> usize
+    requires { ⌜ Passes (now message) (now slots) j × (length (sentMessage (now message) (now slots) j masked) ≤ length (now out)) ⌝ }
+    ensures { λ r. ⌜ Wrote (now (out .entry)) 0 (sentMessage (now (message .entry)) (now (slots .entry)) j masked) r (now (out .exit)) ⌝ }
+{
+    let w = sending_of(j, masked);
+    let before = j.method + 1 + j.uri;
+    put_message(out, message, before, j.rest, j.kept, slots, j.count, w)
+}
+
+// The length of the outgoing message.
+fn sent_len(message: &[u8], slots: &[u16; 384], j: Judged, masked: bool) -> usize
+    requires { ⌜ Passes (now message) (now slots) j ⌝ }
+    ensures { λ r. ⌜ r ≡ length (sentMessage (now (message .entry)) (now (slots .entry)) j masked) ⌝ }
+{
+    let w = sending_of(j, masked);
+    let before = j.method + 1 + j.uri;
+    let fields = output::lines_len(message, j.kept, slots, j.count, w);
+    before + 10 + fields + 2 + j.body
+}
+
+// The length of the outgoing message where the room is too small for it, else 0. It is less than 1,024 bytes longer than the message, so
+// that it is measured only where the room is tight.
+fn needed(message: &[u8], slots: &[u16; 384], j: Judged, masked: bool, room: usize) -> usize
+    requires { ⌜ Passes (now message) (now slots) j ⌝ }
+    ensures { λ r. ⌜
+        r
+        ≡ cond (leb (length (sentMessage (now (message .entry)) (now (slots .entry)) j masked)) room) 0
+        (length (sentMessage (now (message .entry)) (now (slots .entry)) j masked))
+        ⌝ }
+{
+    if message.len() + 1024 <= room {
+        return 0;
+    }
+    let len = sent_len(message, slots, j, masked);
+    if len <= room {
+        return 0;
+    }
+    len
 }
 
 // The caller is masked on side 1 where it is withheld.
@@ -161,71 +157,19 @@ fn too_long(method: &[u8], needed: usize) -> Refusal
 }
 
 // Reason 16, or the outgoing message of a request that no other reason refuses.
-fn deliver(
-    message: &[u8],
-    side: u64,
-    out: &mut [u8],
-    method: usize,
-    uri: usize,
-    rest: usize,
-    slots: &[u16; 384],
-    count: usize,
-    j: Judged,
-) -> Verdict
-    requires { ⌜
-        Reads (now message) method uri rest count (now slots) × Passes (now message) rest count (now slots) j × (side ≤ 1)
-        × (method + 1 + uri ≤ length (now message))
-        ⌝ }
+fn deliver(message: &[u8], side: u64, out: &mut [u8], slots: &[u16; 384], j: Judged) -> Verdict
+    requires { ⌜ Passes (now message) (now slots) j × (side ≤ 1) ⌝ }
     ensures { λ r. ⌜
         (numbersOf r ≡ screened (now (message .entry)) side (now (out .entry)) .answer)
         × (now (out .exit) ≡ screened (now (message .entry)) side (now (out .entry)) .buffer)
         ⌝ }
 {
-    let tag = j.tag;
-    let body = j.body;
-    let kept = j.kept;
     let masked = is_masked(side, j.withheld);
-    let w = Sending {
-        masked,
-        hops: j.hops,
-        body,
-        tag,
-    };
-    let before = method + 1 + uri;
-    let fields = output::lines_len(message, kept, slots, count, w);
-    let len = before + 10 + fields + 2 + body;
-    if out.len() < len {
-        return Verdict::Refused(too_long(octets::first(message, method), len));
+    let lack = needed(message, slots, j, masked, out.len());
+    if lack != 0 {
+        return Verdict::Refused(too_long(octets::first(message, j.method), lack));
     }
-    write(out, message, before, rest, kept, slots, count, w);
-    Verdict::Accepted(len)
-}
-
-// Reasons 6 to 16 of a message that was read, or its outgoing message.
-fn screen_read(
-    message: &[u8],
-    side: u64,
-    out: &mut [u8],
-    method: usize,
-    uri: usize,
-    rest: usize,
-    slots: &[u16; 384],
-    count: usize,
-) -> Verdict
-    requires { ⌜
-        Reads (now message) method uri rest count (now slots) × (side ≤ 1) × (method + 1 + uri ≤ length (now message))
-        ⌝ }
-    ensures { λ r. ⌜
-        (numbersOf r ≡ screened (now (message .entry)) side (now (out .entry)) .answer)
-        × (now (out .exit) ≡ screened (now (message .entry)) side (now (out .entry)) .buffer)
-        ⌝ }
-{
-    let j = judge::judge(message, method, uri, rest, slots, count);
-    let r = j.refusal;
-    if r.reason != 0 {
-        return Verdict::Refused(r);
-    }
-    deliver(message, side, out, method, uri, rest, slots, count, j)
+    Verdict::Accepted(write(out, message, slots, j, masked))
 }
 
 // A refusal that says no more than its reason, and to which nothing is replied.
@@ -251,21 +195,13 @@ pub fn screen(message: &[u8], side: u64, out: &mut [u8]) -> Verdict
     if 1 < side {
         return refused(1);
     }
-    let m = lines::read(message);
-    let reason = m.reason;
-    if reason != 0 {
-        return refused(reason);
+    let mut slots = [0u16; 384];
+    let j = judgement::judge(message, &mut slots);
+    let r = j.refusal;
+    if r.reason != 0 {
+        return Verdict::Refused(r);
     }
-    screen_read(
-        message,
-        side,
-        out,
-        m.method,
-        m.uri,
-        m.rest,
-        &m.slots,
-        m.count,
-    )
+    deliver(message, side, out, &slots, j)
 }
 
 // The number of an asserted identity, whose value is this part of the message. Its canonical form is read; nothing in a number is
@@ -314,7 +250,7 @@ fn calling_accepted(message: &[u8], trunk: &[u8], kept: u32) -> sip::CallingAt
     requires { ⌜ Identified (now message) kept × (isGlobal (now trunk) ≡ true) ⌝ }
     ensures { λ r. ⌜ r ≡ callingAt (now (message .entry)) (now (trunk .entry)) ⌝ }
 {
-    if !sets::in_set(kept, 15) {
+    if !judgement::in_set(kept, 15) {
         return whole_trunk(trunk.len());
     }
     let p = lines::reading_at(message, 15, 1);
@@ -324,27 +260,6 @@ fn calling_accepted(message: &[u8], trunk: &[u8], kept: u32) -> sip::CallingAt
     caller_at(message, p)
 }
 
-// The calling number of a message that was read, where the trunk number is good.
-fn calling_read(
-    message: &[u8],
-    trunk: &[u8],
-    method: usize,
-    uri: usize,
-    rest: usize,
-    slots: &[u16; 384],
-    count: usize,
-) -> sip::CallingAt
-    requires { ⌜ Reads (now message) method uri rest count (now slots) × (isGlobal (now trunk) ≡ true) ⌝ }
-    ensures { λ r. ⌜ r ≡ callingAt (now (message .entry)) (now (trunk .entry)) ⌝ }
-{
-    let j = judge::judge(message, method, uri, rest, slots, count);
-    let r = j.refusal;
-    if r.reason != 0 {
-        return no_calling();
-    }
-    calling_accepted(message, trunk, j.kept)
-}
-
 // The calling number, as a part of the message or of the trunk number.
 pub fn calling_at(message: &[u8], trunk: &[u8]) -> sip::CallingAt
     ensures { λ r. ⌜ r ≡ callingAt (now (message .entry)) (now (trunk .entry)) ⌝ }
@@ -352,11 +267,13 @@ pub fn calling_at(message: &[u8], trunk: &[u8]) -> sip::CallingAt
     if !values::is_global(trunk) {
         return no_calling();
     }
-    let m = lines::read(message);
-    if m.reason != 0 {
+    let mut slots = [0u16; 384];
+    let j = judgement::judge(message, &mut slots);
+    let r = j.refusal;
+    if r.reason != 0 {
         return no_calling();
     }
-    calling_read(message, trunk, m.method, m.uri, m.rest, &m.slots, m.count)
+    calling_accepted(message, trunk, j.kept)
 }
 
 // The calling number itself: that part.

@@ -1,11 +1,11 @@
 // The outgoing message: its length, and its writing.
 use crate::Sending;
-use crate::sets;
+use crate::names;
 use lines::Slot;
 use sip::Span;
 ghost use mathlib.Core.Path.{_≡_};
 ghost use mathlib.Core.Bool.{cond, _&&_};
-ghost use mathlib.Core.List.{[], _∷_, _++_};
+ghost use mathlib.Core.List.{_++_};
 ghost use Prim.Native.Nat.{_+_, _-_, _≤_, _<_, _^_};
 ghost use lib.Dec.{eqb};
 ghost use lib.ListN.{length, take, drop};
@@ -14,7 +14,7 @@ ghost use Rattle.sip.specs.Lines.{crlf, folded};
 ghost use Rattle.sip.specs.Profile.{nameOf};
 ghost use Rattle.sip.specs.Output.{anonymous, sentValue, fieldLines};
 ghost use Rattle.emit.specs.Put.{Wrote};
-ghost use Rattle.gateway.specs.Entries.{entryAt, entriesFrom};
+ghost use Rattle.judgement.specs.Entries.{entryAt, entriesFrom};
 ghost use Rattle.gateway.specs.Sending.{Tells, Told};
 ghost use Rattle.gateway.specs.Sent.{lineOf};
 
@@ -91,7 +91,7 @@ fn line_len(message: &[u8], s: Slot, w: Sending) -> usize
     if is_dropped(w.masked, n) {
         return 0;
     }
-    let name = sets::name_len(n);
+    let name = names::name_len(n);
     let value = value_len(message, s, w);
     let text = name + value;
     text + 4
@@ -117,7 +117,7 @@ pub(crate) fn lines_len(
     let mut i = 0;
     while i < count {
         let s = lines::slot_at(slots, i);
-        if sets::in_set(kept, s.number) {
+        if judgement::in_set(kept, s.number) {
             sum += line_len(message, s, w);
         }
         i += 1;
@@ -196,15 +196,6 @@ fn put_value(out: &mut [u8], at: usize, message: &[u8], s: Slot, w: Sending) -> 
     emit::put(out, at, v)
 }
 
-// The front of a field's line: long name, colon, one space.
-fn put_front(out: &mut [u8], at: usize, n: usize) -> usize
-    requires { ⌜ at + (length (nameOf n) + 2) ≤ length (now out) ⌝ }
-    ensures { λ r. ⌜ Wrote (now (out .entry)) at (nameOf n ++ 58 ∷ 32 ∷ []) r (now (out .exit)) ⌝ }
-{
-    let name = sets::put_name(out, at, n);
-    emit::put(out, name, b": ")
-}
-
 // A field's line, unless it is dropped: its front, its value, CRLF.
 fn put_line(out: &mut [u8], at: usize, message: &[u8], s: Slot, w: Sending) -> usize
     requires { ⌜
@@ -218,7 +209,7 @@ fn put_line(out: &mut [u8], at: usize, message: &[u8], s: Slot, w: Sending) -> u
     if is_dropped(w.masked, s.number) {
         return at;
     }
-    let front = put_front(out, at, s.number);
+    let front = names::put_front(out, at, s.number);
     let value = put_value(out, front, message, s, w);
     emit::put(out, value, b"\r\n")
 }
@@ -247,7 +238,7 @@ pub(crate) fn put_lines(
     let mut i = 0;
     while i < count {
         let s = lines::slot_at(slots, i);
-        if sets::in_set(kept, s.number) {
+        if judgement::in_set(kept, s.number) {
             at = put_line(out, at, message, s, w);
         }
         i += 1;

@@ -13,7 +13,7 @@ use Rattle.sip.specs.Refusals.{Lines, unread, read, lines}
 use Rattle.sip.specs.Readings.{valueSpans, place, spans}
 use Rattle.sip.specs.declared.Span.{Span}
 use Rattle.sip.proofs.Sizes.{read-inv}
-use Rattle.lines.specs.Index.{slotOf, slotsOf, slotAt, message}
+use Rattle.lines.specs.Index.{slotOf, slotsOf, slotAt, index}
 use Rattle.lines.specs.Passes.{firstSlots, spanOf, spansIn, countedIn, counting}
 use Rattle.lines.specs.declared.Slot.{Slot}
 use Rattle.lines.specs.declared.Message.{Message}
@@ -105,11 +105,11 @@ slots-few at (f ∷ fs) = go (eqb (numberOf (f .name)) 0) (slots-few (at + lengt
     go true l = omega arith
     go false l = omega arith
 
-pub count-few : (m : List ℕ) {r : Message} → r ≡ message m → r .count ≤ 96
-unfolding message
+pub count-few : (m : List ℕ) {r : Message} → r ≡ index m .head → r .count ≤ 96
+unfolding index
 count-few m {r} e = rw e (go (lines m) refl)
   where
-    go : (x : Lines) → lines m ≡ x → message m .count ≤ 96
+    go : (x : Lines) → lines m ≡ x → index m .head .count ≤ 96
     go (unread n) q = rw q (omega arith)
     go (read l g) q = rw q (omega (arith, slots-few (startSize l) (g .fields), read-inv m l g q .few))
 
@@ -127,11 +127,11 @@ module _ (n : ℕ) (h : n ≡ 0 → ⊥) where
           rw (q, w) e
       go false q e = rw (q, e)
 
-  pub message-spans : (m : List ℕ) → spansIn n (firstSlots (message m .count) (message m .slots)) ≡ spans m n
-  unfolding message spans firstSlots spansIn
+  pub message-spans : (m : List ℕ) → spansIn n (firstSlots (index m .head .count) (index m .slots)) ≡ spans m n
+  unfolding index spans firstSlots spansIn
   message-spans m = go (lines m) refl
     where
-      go : (x : Lines) → lines m ≡ x → spansIn n (firstSlots (message m .count) (message m .slots)) ≡ spans m n
+      go : (x : Lines) → lines m ≡ x → spansIn n (firstSlots (index m .head .count) (index m .slots)) ≡ spans m n
       go (unread r) e = rw e
       go (read l g) e =
           let at : ℕ = startSize l in

@@ -22,7 +22,7 @@ use Rattle.sip.specs.Values.{isEmpty}
 use Rattle.sip.proofs.Fields.{length-bytes, field-back}
 use Rattle.sip.proofs.Headers.{header-here}
 use Rattle.sip.proofs.Sizes.{read-inv}
-use Rattle.lines.specs.Index.{slotOf, slotsOf, slotAt, message, noSlot}
+use Rattle.lines.specs.Index.{slotOf, slotsOf, slotAt, index, noSlot}
 use Rattle.lines.specs.declared.Slot.{Slot}
 use Rattle.lines.proofs.Spellings.{bounded-number}
 use Rattle.lines.proofs.Breaks.{trim-part}
@@ -158,9 +158,9 @@ slot-listed m fs ss zero d (listed {f = f} s r) h = (f, s)
 slot-listed m fs ss (suc i) d (listed {fs = gs} {ss = ts} s r) h = slot-listed m gs ts i d r (omega arith)
 
 -- the i-th slot that reading leaves
-pub message-slot : (m : List ℕ) (l : Start) (h : Header) → lines m ≡ read l h → (i : ℕ) → i < message m .count
-    → (f : Field) × SlotHere m f (slotAt (message m .slots) i)
-unfolding message
+pub message-slot : (m : List ℕ) (l : Start) (h : Header) → lines m ≡ read l h → (i : ℕ) → i < index m .head .count
+    → (f : Field) × SlotHere m f (slotAt (index m .slots) i)
+unfolding index
 message-slot m l h e i k =
     let ss : List Slot = slotsOf (startSize l) (h .fields) in
     let j : i < length ss = rw e at k in

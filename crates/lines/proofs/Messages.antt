@@ -1,5 +1,5 @@
 -- A message by its start line and by how its fields end; and what is read of it by number and place.
-use mathlib.Core.Path.{_≡_, refl, sym, _∙_}
+use mathlib.Core.Path.{_≡_, refl, sym, ap, _∙_}
 use mathlib.Core.List.{List, []}
 use Prim.Native.Nat.{ℕ, _+_, _≤_, _<_}
 use native.Mathlib.Omega.{arith}
@@ -9,7 +9,7 @@ use Rattle.sip.specs.Refusals.{Lines, unread, read, lines}
 use Rattle.sip.specs.Readings.{place, spans, count, readingAt, reading}
 use Rattle.sip.specs.declared.Span.{Span}
 use Rattle.lines.specs.Places.{startAt}
-use Rattle.lines.specs.Index.{unreadMessage, message}
+use Rattle.lines.specs.Index.{packed, zeros, padded, Indexed, unreadHead, unreadIndex, index}
 use Rattle.lines.specs.Passes.{settled, firstSlots, spansIn, countedIn}
 use Rattle.lines.specs.declared.StartAt.{StartAt}
 use Rattle.lines.specs.declared.StartAt.the-variants.{Found, Bad}
@@ -19,23 +19,49 @@ use Rattle.lines.specs.declared.slots.Counted.{Counted}
 use Rattle.lines.proofs.Starts.{start-bad, start-read}
 use Rattle.lines.proofs.Counts.{message-spans}
 
+-- no slots are stored yet
+pub cleared : {ss : List ℕ} → ss ≡ zeros 384 → ss ≡ padded []
+unfolding padded packed
+cleared q = q
+
 -- ---- how the fields end
 
-module _ (m : List ℕ) (method uri : ℕ) (e : Ended) (ns : List ℕ) (h : settled method uri e ns ≡ message m) where
-  pub settled-unread : (e .reason ≡ 0 → ⊥) → {r : Message} → r ≡ unreadMessage (e .reason) → r ≡ message m
-  unfolding settled
-  settled-unread n q = q ∙ (rw (ne-eqb (e .reason) 0 n) at h)
+module _ (m : List ℕ) (method uri : ℕ) (e : Ended) (ns : List ℕ) (h : settled method uri e ns ≡ index m) where
+  module _ (n : e .reason ≡ 0 → ⊥) where
+    unread-is : index m ≡ unreadIndex (e .reason)
+    unfolding settled
+    unread-is = sym (rw (ne-eqb (e .reason) 0 n) at h)
 
-  pub settled-read : e .reason ≡ 0 → record { reason = 0; method = method; uri = uri; rest = e .rest; count = e .count; slots = ns } ≡ message m
-  unfolding settled
-  settled-read z = rw (eq-eqb (e .reason) 0 z) at h
+    pub settled-unread : {r : Message} → r ≡ unreadHead (e .reason) → r ≡ index m .head
+    settled-unread q = q ∙ sym (ap (λ (x : Indexed). x .head) unread-is)
+
+    pub settled-cleared : {ss : List ℕ} → ss ≡ zeros 384 → ss ≡ index m .slots
+    settled-cleared q = q ∙ sym (ap (λ (x : Indexed). x .slots) unread-is)
+
+  module _ (z : e .reason ≡ 0) where
+    read-is : record { head = record { reason = 0; method = method; uri = uri; rest = e .rest; count = e .count }; slots = ns } ≡ index m
+    unfolding settled
+    read-is = rw (eq-eqb (e .reason) 0 z) at h
+
+    pub settled-read : record { reason = 0; method = method; uri = uri; rest = e .rest; count = e .count } ≡ index m .head
+    settled-read = ap (λ (x : Indexed). x .head) read-is
+
+    pub settled-slots : ns ≡ index m .slots
+    settled-slots = ap (λ (x : Indexed). x .slots) read-is
 
 -- ---- the start line
 
 module _ (m : List ℕ) {r : StartAt} (hr : r ≡ startAt m) where
-  pub start-unread : length m ≤ 8192 → r ≡ Bad → {x : Message} → x ≡ unreadMessage 3 → x ≡ message m
-  unfolding message lines
-  start-unread l q h = h ∙ rw (le-leb (length m) 8192 l, start-bad m hr q)
+  module _ (l : length m ≤ 8192) (q : r ≡ Bad) where
+    no-start : index m ≡ unreadIndex 3
+    unfolding index lines
+    no-start = rw (le-leb (length m) 8192 l, start-bad m hr q)
+
+    pub start-unread : {x : Message} → x ≡ unreadHead 3 → x ≡ index m .head
+    start-unread h = h ∙ sym (ap (λ (x : Indexed). x .head) no-start)
+
+    pub start-cleared : {ss : List ℕ} → ss ≡ zeros 384 → ss ≡ index m .slots
+    start-cleared h = h ∙ sym (ap (λ (x : Indexed). x .slots) no-start)
 
   module _ {method uri : ℕ} (q : r ≡ Found method uri) where
     pub start-is : startAt m ≡ Found method uri
@@ -44,9 +70,16 @@ module _ (m : List ℕ) {r : StartAt} (hr : r ≡ startAt m) where
     pub start-room : method + uri + 11 ≤ length m
     start-room = omega (arith, start-read m hr q .line-fits)
 
-pub too-long : (m : List ℕ) → 8192 < length m → {x : Message} → x ≡ unreadMessage 2 → x ≡ message m
-unfolding message lines
-too-long m l h = h ∙ rw (lt-leb (length m) 8192 l)
+module _ (m : List ℕ) (l : 8192 < length m) where
+  too-long : index m ≡ unreadIndex 2
+  unfolding index lines
+  too-long = rw (lt-leb (length m) 8192 l)
+
+  pub long-unread : {x : Message} → x ≡ unreadHead 2 → x ≡ index m .head
+  long-unread h = h ∙ sym (ap (λ (x : Indexed). x .head) too-long)
+
+  pub long-cleared : {ss : List ℕ} → ss ≡ zeros 384 → ss ≡ index m .slots
+  long-cleared h = h ∙ sym (ap (λ (x : Indexed). x .slots) too-long)
 
 -- ---- the fields of a number
 
@@ -63,9 +96,10 @@ module _ (m : List ℕ) (n k : ℕ) where
   unfolding place
   none-found h = rw (no-spans m n h)
 
-  pub all-found : 1 ≤ n → {r : Message} → r ≡ message m → {c : Counted} → c ≡ countedIn k (spansIn n (firstSlots (r .count) (r .slots)))
+  pub all-found : 1 ≤ n → {r : Message} → r ≡ index m .head → {ss : List ℕ} → ss ≡ index m .slots
+      → {c : Counted} → c ≡ countedIn k (spansIn n (firstSlots (r .count) ss))
       → c ≡ countedIn k (spans m n)
-  all-found h {r} e {c} q = q ∙ rw (e, message-spans n (λ z. omega arith) m)
+  all-found h {r} e {ss} es {c} q = q ∙ rw (e, es, message-spans n (λ z. omega arith) m)
 
   module _ {c : Counted} (h : c ≡ countedIn k (spans m n)) where
     pub count-is : c .count ≡ count m n

@@ -17,13 +17,12 @@ use Rattle.sip.specs.Readings.{valueSpan}
 use Rattle.sip.proofs.Fields.{FieldHere, field-here, length-bytes}
 use Rattle.sip.proofs.Headers.{header-next}
 use Rattle.lines.specs.Places.{startAt, fieldAt}
-use Rattle.lines.specs.Index.{slotOf, slotsOf, padded, unreadMessage, messageOf, message, noSlot}
+use Rattle.lines.specs.Index.{slotOf, slotsOf, padded, Indexed, unreadIndex, indexOf, index, noSlot}
 use Rattle.lines.specs.Passes.{slotFor, listedSlot, stored, keeps, refusedEnd, settled}
 use Rattle.lines.specs.declared.StartAt.the-variants.{Found as StartFound}
 use Rattle.lines.specs.declared.FieldAt.{FieldAt}
 use Rattle.lines.specs.declared.FieldAt.the-variants.{Found, Bad}
 use Rattle.lines.specs.declared.Slot.{Slot}
-use Rattle.lines.specs.declared.Message.{Message}
 use Rattle.lines.specs.declared.header.Ended.{Ended}
 use Rattle.lines.proofs.Values.{never, crlf-room}
 use Rattle.lines.proofs.Starts.{StartRead, start-read}
@@ -31,20 +30,20 @@ use Rattle.lines.proofs.Fields.{FieldRead, field-bad, field-read, field
 use Rattle.lines.proofs.Packs.{store-next}
 
 -- the message whose fields from place at on are these, with number fields before them, of which done are listed
-abbrev messageFrom : List ℕ → ℕ → ℕ → List Slot → ℕ → ℕ → Option Header → Message
-messageFrom m method uri done number at none = unreadMessage 4
-messageFrom m method uri done number at (some h) =
+abbrev indexFrom : List ℕ → ℕ → ℕ → List Slot → ℕ → ℕ → Option Header → Indexed
+indexFrom m method uri done number at none = unreadIndex 4
+indexFrom m method uri done number at (some h) =
     let ss = done ++ slotsOf at (h .fields) in
     cond (leb (number + length (h .fields)) 96)
-    (record { reason = 0; method = method; uri = uri; rest = length m - length (h .rest); count = length ss; slots = padded ss })
-    (unreadMessage 5)
+    (record { head = record { reason = 0; method = method; uri = uri; rest = length m - length (h .rest); count = length ss }; slots = padded ss })
+    (unreadIndex 5)
 
 pub record Reached (m : List ℕ) (method uri number at count : ℕ) (ns : List ℕ) : Type 0 where
   pub done : List Slot
   pub held : ns ≡ padded done
   pub counted : count ≡ length done
   pub listed : count ≤ number
-  pub same : message m ≡ messageFrom m method uri done number at (header 0 (drop at m))
+  pub same : index m ≡ indexFrom m method uri done number at (header 0 (drop at m))
 
 -- ---- the header at a place
 
@@ -72,20 +71,20 @@ module _ (m : List ℕ) (method uri : ℕ) (done : List Slot) (number at : ℕ) 
   one-more k = omega arith
 
   step-unlisted : eqb (numberOf (f .name)) 0 ≡ true → (o : Option Header)
-      → messageFrom m method uri done number at (withField f o) ≡ messageFrom m method uri done (number + 1) after o
+      → indexFrom m method uri done number at (withField f o) ≡ indexFrom m method uri done (number + 1) after o
   unfolding slotsOf
   step-unlisted e none = refl
   step-unlisted e (some h) = rw (e, one-more (length (h .fields)))
 
   step-kept : eqb (numberOf (f .name)) 0 ≡ false → (o : Option Header)
-      → messageFrom m method uri done number at (withField f o) ≡ messageFrom m method uri (done ++ slotOf at f ∷ []) (number + 1) after o
+      → indexFrom m method uri done number at (withField f o) ≡ indexFrom m method uri (done ++ slotOf at f ∷ []) (number + 1) after o
   unfolding slotsOf
   step-kept e none = refl
   step-kept e (some h) = rw (e, one-more (length (h .fields)), append-snoc done (slotOf at f) (slotsOf after (h .fields)))
 
   -- more than 96 are refused, whatever is stored of them
   step-full : 96 ≤ number → (o : Option Header)
-      → messageFrom m method uri done number at (withField f o) ≡ messageFrom m method uri done (number + 1) after o
+      → indexFrom m method uri done number at (withField f o) ≡ indexFrom m method uri done (number + 1) after o
   step-full l none = refl
   step-full l (some h) =
       rw (lt-leb (number + suc (length (h .fields))) 96 (omega arith), lt-leb (number + 1 + length (h .fields)) 96 (omega arith))
@@ -109,24 +108,27 @@ module _ (m : List ℕ) (method uri at : ℕ) (l : length m ≤ 8192) (r : Start
   line-long : startSize line ≡ at
   line-long = omega (arith, method-long, uri-long)
 
-  from-header : (o : Option Header) → header 0 (drop at m) ≡ o → message m ≡ messageFrom m method uri [] 0 at o
-  unfolding message lines
+  from-header : (o : Option Header) → header 0 (drop at m) ≡ o → index m ≡ indexFrom m method uri [] 0 at o
+  unfolding index lines
   from-header none x = rw (le-leb (length m) 8192 l, r .reads, line-long, x)
   from-header (some h) x =
       let z : 0 + length (h .fields) ≡ length (h .fields) = omega arith in
       rw (le-leb (length m) 8192 l, r .reads, line-long, x, z) (few (leb (length (h .fields)) 96))
     where
-      few : (t : Bool) → messageOf m (cond t (read line h) (unread 5))
+      few : (t : Bool) → indexOf m (cond t (read line h) (unread 5))
           ≡ cond t
           (record {
-            reason = 0;
-            method = method;
-            uri = uri;
-            rest = length m - length (h .rest);
-            count = length (slotsOf at (h .fields));
+            head =
+                record {
+                  reason = 0;
+                  method = method;
+                  uri = uri;
+                  rest = length m - length (h .rest);
+                  count = length (slotsOf at (h .fields));
+                };
             slots = padded (slotsOf at (h .fields));
           })
-          (unreadMessage 5)
+          (unreadIndex 5)
       few true = rw (line-long, method-long, uri-long)
       few false = refl
 
@@ -143,7 +145,7 @@ begin m method uri l e {at} p {ns} q =
 
 module _ (m : List ℕ) (method uri number at count : ℕ) (ns : List ℕ) (h : Reached m method uri number at count ns) where
   -- the bytes are over, with no empty line
-  pub over : length m ≤ at → {x : Ended} → x ≡ refusedEnd 4 → settled method uri x ns ≡ message m
+  pub over : length m ≤ at → {x : Ended} → x ≡ refusedEnd 4 → settled method uri x ns ≡ index m
   unfolding settled
   over l z = rw z (sym (h .same ∙ rw (drop-of-length-le m l, header-nil)))
 
@@ -152,14 +154,14 @@ module _ (m : List ℕ) (method uri number at count : ℕ) (ns : List ℕ) (h : 
     crlf-is = sym (hb ∙ ap startsCRLF ht)
 
     module _ (q : b ≡ true) where
-      at-empty : message m ≡ messageFrom m method uri (h .done) number at (some (record { fields = []; rest = drop 2 (drop at m) }))
-      at-empty = h .same ∙ ap (messageFrom m method uri (h .done) number at) (header-done (drop at m) (crlf-is ∙ q))
+      at-empty : index m ≡ indexFrom m method uri (h .done) number at (some (record { fields = []; rest = drop 2 (drop at m) }))
+      at-empty = h .same ∙ ap (indexFrom m method uri (h .done) number at) (header-done (drop at m) (crlf-is ∙ q))
 
-      pub many : 96 < number → {x : Ended} → x ≡ refusedEnd 5 → settled method uri x ns ≡ message m
+      pub many : 96 < number → {x : Ended} → x ≡ refusedEnd 5 → settled method uri x ns ≡ index m
       unfolding settled
       many l z = rw z (sym (at-empty ∙ rw (lt-leb (number + 0) 96 (omega arith))))
 
-      pub ends : number ≤ 96 → {k : ℕ} → k ≡ at + 2 → settled method uri (record { reason = 0; rest = k; count = count }) ns ≡ message m
+      pub ends : number ≤ 96 → {k : ℕ} → k ≡ at + 2 → settled method uri (record { reason = 0; rest = k; count = count }) ns ≡ index m
       unfolding settled slotsOf
       ends l {k} z =
           let room : 2 ≤ length (drop at m) = crlf-room (drop at m) (crlf-is ∙ q) in
@@ -167,7 +169,7 @@ module _ (m : List ℕ) (method uri number at count : ℕ) (ns : List ℕ) (h : 
           sym (at-empty ∙ rw (le-leb (number + 0) 96 (omega arith), w, append-nil (h .done), ← h .held, ← h .counted))
 
     module _ (n : b ≡ false) {r : FieldAt} (hr : r ≡ fieldAt m at) where
-      pub bad : r ≡ Bad → {x : Ended} → x ≡ refusedEnd 4 → settled method uri x ns ≡ message m
+      pub bad : r ≡ Bad → {x : Ended} → x ≡ refusedEnd 4 → settled method uri x ns ≡ index m
       unfolding settled
       bad q z = rw z (sym (h .same ∙ rw (header-bad (drop at m) (crlf-is ∙ n) (field-bad m at hr q))))
 
@@ -229,13 +231,13 @@ module _ (m : List ℕ) (method uri number at count : ℕ) (ns : List ℕ) (h : 
         module _ {s : Slot} (hs : s ≡ listedSlot (numberOf (take (x - at) (drop at m))) v (take (e - v) (drop v m)))
             {c : ℕ} (hc : c ≡ cond (keeps count s) (count + 1) count) {ns′ : List ℕ} (hn : ns′ ≡ cond (keeps count s) (stored ns count s) ns)
             {j : ℕ} (hj : j ≡ number + 1) {k : ℕ} (hk : k ≡ e + 2) where
-          from : message m ≡ messageFrom m method uri (h .done) number at (withField the (header 0 (drop k m)))
-          from = h .same ∙ ap (messageFrom m method uri (h .done) number at) (header-is hk)
+          from : index m ≡ indexFrom m method uri (h .done) number at (withField the (header 0 (drop k m)))
+          from = h .same ∙ ap (indexFrom m method uri (h .done) number at) (header-is hk)
 
           -- what is stored stays
           stays : keeps count s ≡ false
-              → messageFrom m method uri (h .done) number at (withField the (header 0 (drop k m)))
-              ≡ messageFrom m method uri (h .done) (number + 1) (at + length (bytes the)) (header 0 (drop k m))
+              → indexFrom m method uri (h .done) number at (withField the (header 0 (drop k m)))
+              ≡ indexFrom m method uri (h .done) (number + 1) (at + length (bytes the)) (header 0 (drop k m))
               → Reached m method uri j k c ns′
           stays y w =
               let cs : c ≡ count = hc ∙ rw y in

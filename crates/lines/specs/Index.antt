@@ -54,25 +54,36 @@ slotAt ns i =
     in
     cond (ltb i 96) here noSlot
 
-abbrev pub unreadMessage : ℕ → Message
-unreadMessage reason = record { reason = reason; method = 0; uri = 0; rest = 0; count = 0; slots = zeros 384 }
+-- what reading leaves: the lines by their lengths, and the slots of the listed fields
+pub record Indexed : Type 0 where
+  pub head : Message
+  pub slots : List ℕ
 
-abbrev pub readMessage : List ℕ → Start → Header → Message
-readMessage m l h =
+abbrev pub unreadHead : ℕ → Message
+unreadHead reason = record { reason = reason; method = 0; uri = 0; rest = 0; count = 0 }
+
+abbrev pub unreadIndex : ℕ → Indexed
+unreadIndex reason = record { head = unreadHead reason; slots = zeros 384 }
+
+abbrev pub readIndex : List ℕ → Start → Header → Indexed
+readIndex m l h =
     let ss = slotsOf (startSize l) (h .fields) in
     record {
-      reason = 0;
-      method = length (l .method);
-      uri = length (l .uri);
-      rest = length m - length (h .rest);
-      count = length ss;
+      head =
+          record {
+            reason = 0;
+            method = length (l .method);
+            uri = length (l .uri);
+            rest = length m - length (h .rest);
+            count = length ss;
+          };
       slots = padded ss;
     }
 
-abbrev pub messageOf : List ℕ → Lines → Message
-messageOf m (unread r) = unreadMessage r
-messageOf m (read l h) = readMessage m l h
+abbrev pub indexOf : List ℕ → Lines → Indexed
+indexOf m (unread r) = unreadIndex r
+indexOf m (read l h) = readIndex m l h
 
 -- a message by its lines
-unfoldable pub message : List ℕ → Message
-message m = messageOf m (lines m)
+unfoldable pub index : List ℕ → Indexed
+index m = indexOf m (lines m)

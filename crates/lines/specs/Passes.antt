@@ -10,9 +10,8 @@ use Rattle.sip.specs.Lines.{any, trim}
 use Rattle.sip.specs.Readings.{noSpan, place}
 use Rattle.sip.specs.Values.{isEmpty}
 use Rattle.sip.specs.declared.Span.{Span}
-use Rattle.lines.specs.Index.{slotAt, unreadMessage, noSlot}
+use Rattle.lines.specs.Index.{slotAt, Indexed, unreadIndex, noSlot}
 use Rattle.lines.specs.declared.Slot.{Slot}
-use Rattle.lines.specs.declared.Message.{Message}
 use Rattle.lines.specs.declared.header.Ended.{Ended}
 use Rattle.lines.specs.declared.slots.Counted.{Counted}
 
@@ -47,11 +46,11 @@ abbrev pub refusedEnd : ℕ → Ended
 refusedEnd reason = record { reason = reason; rest = 0; count = 0 }
 
 -- the message whose fields end so
-unfoldable pub settled : ℕ → ℕ → Ended → List ℕ → Message
+unfoldable pub settled : ℕ → ℕ → Ended → List ℕ → Indexed
 settled method uri e ns =
     cond (eqb (e .reason) 0)
-    (record { reason = 0; method = method; uri = uri; rest = e .rest; count = e .count; slots = ns })
-    (unreadMessage (e .reason))
+    (record { head = record { reason = 0; method = method; uri = uri; rest = e .rest; count = e .count }; slots = ns })
+    (unreadIndex (e .reason))
 
 -- ---- over the slots
 

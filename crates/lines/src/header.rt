@@ -15,7 +15,7 @@ ghost use Rattle.octets.specs.Classes.{classTable, bit, isBreak};
 ghost use Rattle.sip.specs.Lines.{any};
 ghost use Rattle.sip.specs.Profile.{numberOf};
 ghost use Rattle.lines.specs.Places.{startAt};
-ghost use Rattle.lines.specs.Index.{padded, unreadMessage, message};
+ghost use Rattle.lines.specs.Index.{zeros, padded, unreadHead, index};
 ghost use Rattle.lines.specs.Passes.{slotFor, listedSlot, Small, stored, keeps, refusedEnd, settled};
 ghost use Rattle.lines.specs.declared.StartAt.the-variants.{Found};
 
@@ -26,16 +26,24 @@ pub(crate) struct Ended {
     pub count: usize,
 }
 
-pub(crate) fn unread(reason: u64) -> Message
-    ensures { λ r. ⌜ r ≡ unreadMessage reason ⌝ }
+// Leaves no slots, whatever they held.
+fn clear(slots: &mut [u16; 384])
+    ensures { λ r. ⌜ now (slots .exit) ≡ zeros 384 ⌝ }
 {
+    *slots = [0u16; 384];
+}
+
+// A message that is not read has no slots.
+pub(crate) fn unread(slots: &mut [u16; 384], reason: u64) -> Message
+    ensures { λ r. ⌜ (r ≡ unreadHead reason) × (now (slots .exit) ≡ zeros 384) ⌝ }
+{
+    clear(slots);
     Message {
         reason,
         method: 0,
         uri: 0,
         rest: 0,
         count: 0,
-        slots: [0u16; 384],
     }
 }
 
@@ -176,7 +184,7 @@ fn refused(reason: u64) -> Ended
 // Reads the fields after a start line of these lengths. Past 96 of them it goes on without slots, since a bad shape comes first.
 fn fields(table: &[u16; 256], s: &[u8], slots: &mut [u16; 384], method: usize, uri: usize) -> Ended
     requires { ⌜ (now table ≡ classTable) × (length (now s) ≤ 8192) × (startAt (now s) ≡ Found method uri) × (method + uri + 11 ≤ length (now s)) × (now slots ≡ padded []) ⌝ }
-    ensures { λ r. ⌜ settled method uri r (now (slots .exit)) ≡ message (now (s .entry)) ⌝ }
+    ensures { λ r. ⌜ settled method uri r (now (slots .exit)) ≡ index (now (s .entry)) ⌝ }
 {
     let mut count = 0;
     let mut number: usize = 0;
@@ -214,15 +222,21 @@ fn fields(table: &[u16; 256], s: &[u8], slots: &mut [u16; 384], method: usize, u
 }
 
 // The message after a start line of these lengths.
-fn after_start(table: &[u16; 256], s: &[u8], method: usize, uri: usize) -> Message
+fn after_start(
+    table: &[u16; 256],
+    s: &[u8],
+    slots: &mut [u16; 384],
+    method: usize,
+    uri: usize,
+) -> Message
     requires { ⌜ (now table ≡ classTable) × (length (now s) ≤ 8192) × (startAt (now s) ≡ Found method uri) × (method + uri + 11 ≤ length (now s)) ⌝ }
-    ensures { λ r. ⌜ r ≡ message (now (s .entry)) ⌝ }
+    ensures { λ r. ⌜ (r ≡ index (now (s .entry)) .head) × (now (slots .exit) ≡ index (now (s .entry)) .slots) ⌝ }
 {
-    let mut slots = [0u16; 384];
-    let end = fields(table, s, &mut slots, method, uri);
+    clear(slots);
+    let end = fields(table, s, slots, method, uri);
     let reason = end.reason;
     if reason != 0 {
-        return unread(reason);
+        return unread(slots, reason);
     }
     Message {
         reason: 0,
@@ -230,16 +244,15 @@ fn after_start(table: &[u16; 256], s: &[u8], method: usize, uri: usize) -> Messa
         uri,
         rest: end.rest,
         count: end.count,
-        slots,
     }
 }
 
-pub(crate) fn lines(table: &[u16; 256], s: &[u8]) -> Message
+pub(crate) fn lines(table: &[u16; 256], s: &[u8], slots: &mut [u16; 384]) -> Message
     requires { ⌜ (now table ≡ classTable) × (length (now s) ≤ 8192) ⌝ }
-    ensures { λ r. ⌜ r ≡ message (now (s .entry)) ⌝ }
+    ensures { λ r. ⌜ (r ≡ index (now (s .entry)) .head) × (now (slots .exit) ≡ index (now (s .entry)) .slots) ⌝ }
 {
     match start::read(table, s) {
-        StartAt::Bad => unread(3),
-        StartAt::Found { method, uri } => after_start(table, s, method, uri),
+        StartAt::Bad => unread(slots, 3),
+        StartAt::Found { method, uri } => after_start(table, s, slots, method, uri),
     }
 }

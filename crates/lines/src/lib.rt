@@ -4,7 +4,7 @@ ghost use Prim.Native.Nat.{_≤_, _<_};
 ghost use Rattle.sip.specs.Profile.{numberOf};
 ghost use Rattle.sip.specs.Readings.{spans, count, readingAt, reading};
 ghost use Rattle.lines.specs.Places.{startAt, fieldAt};
-ghost use Rattle.lines.specs.Index.{message as messageLines, slotAt};
+ghost use Rattle.lines.specs.Index.{index, slotAt};
 ghost use Rattle.lines.specs.Passes.{countedIn};
 use slots::Counted;
 
@@ -44,14 +44,13 @@ pub struct Slot {
 }
 
 // A message by its lines: the reason of 2 to 5 why it is not read, or 0; the lengths of method and Request-URI; where the rest starts,
-// after the empty line; how many listed fields there are, and four numbers for each of them, as a slot has them.
+// after the empty line; how many listed fields there are.
 pub struct Message {
     pub reason: u64,
     pub method: usize,
     pub uri: usize,
     pub rest: usize,
     pub count: usize,
-    pub slots: [u16; 384],
 }
 
 // The start line at the front of a text.
@@ -91,15 +90,16 @@ pub fn number_of(name: &[u8]) -> usize
     }
 }
 
-// The lines of a message.
-pub fn read(message: &[u8]) -> Message
-    ensures { λ r. ⌜ r ≡ messageLines (now (message .entry)) ⌝ }
+// The lines of a message. In the lent slots it leaves four numbers for each listed field, as a slot has them, and none where the message
+// is not read.
+pub fn read(message: &[u8], slots: &mut [u16; 384]) -> Message
+    ensures { λ r. ⌜ (r ≡ index (now (message .entry)) .head) × (now (slots .exit) ≡ index (now (message .entry)) .slots) ⌝ }
 {
     if 8192 < message.len() {
-        return header::unread(2);
+        return header::unread(slots, 2);
     }
     let table = octets::class_table();
-    header::lines(&table, message)
+    header::lines(&table, message, slots)
 }
 
 // The i-th slot, from 0, of those that `read` leaves.
@@ -143,6 +143,7 @@ fn found_in(message: &[u8], n: u64, k: u64) -> Counted
             span: sip::Span { start: 0, len: 0 },
         };
     }
-    let m = read(message);
-    slots::find(&m.slots, m.count, n, k)
+    let mut slots = [0u16; 384];
+    let m = read(message, &mut slots);
+    slots::find(&slots, m.count, n, k)
 }

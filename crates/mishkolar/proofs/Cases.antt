@@ -4,7 +4,7 @@ use mathlib.Core.List.{List}
 use Prim.Native.Nat.{ℕ}
 use Rattle.sip.specs.Refusals.{Answer}
 use Rattle.sip.specs.Screen.{Screened}
-use Rattle.gateway.specs.declared.Refusal.{Refusal}
+use Rattle.judgement.specs.declared.Refusal.{Refusal}
 use Rattle.gateway.specs.declared.Verdict.{Verdict}
 use Rattle.gateway.specs.declared.Verdict.the-variants.{Accepted, Refused}
 use Rattle.gateway.specs.Verdicts.{numbersOf}

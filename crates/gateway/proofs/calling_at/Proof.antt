@@ -1,6 +1,5 @@
--- What reading found, case by case (Callers).
-use Rattle.gateway.proofs.Top.{reads}
-use Rattle.gateway.proofs.Callers.{bad-trunk, unread-caller, good-trunk}
+-- What judging found, case by case (Callers).
+use Rattle.gateway.proofs.Callers.{bad-trunk, refused-caller, good-trunk, identified}
 use borrow.Author.Needs.{needs}
 use Rattle.gateway.proofs.calling_at.Statement.{statement}
 use Rattle.gateway.proofs.calling_at.Tie as tie
@@ -14,17 +13,17 @@ no-calling-requires c κs = search needs
 returns : tie.Need-returns
 returns c = search (bad-trunk, needs)
 
-read-requires : tie.Need-read-requires
-read-requires c κs = search needs
+judge-requires : tie.Need-judge-requires
+judge-requires c κs = search needs
 
 no-calling-requires-2 : tie.Need-no-calling-requires-2
 no-calling-requires-2 c κs = search needs
 
 returns-2 : tie.Need-returns-2
-returns-2 c = search (unread-caller, needs)
+returns-2 c = search (refused-caller, needs)
 
-calling-read-requires : tie.Need-calling-read-requires
-calling-read-requires c κs = (search (reads, needs), search (good-trunk, needs))
+calling-accepted-requires : tie.Need-calling-accepted-requires
+calling-accepted-requires c κs = (search (identified, needs), search (good-trunk, needs))
 
 returns-3 : tie.Need-returns-3
 returns-3 c = search needs
@@ -36,8 +35,8 @@ calling-at-spec =
     is-global-requires
     no-calling-requires
     returns
-    read-requires
+    judge-requires
     no-calling-requires-2
     returns-2
-    calling-read-requires
+    calling-accepted-requires
     returns-3)

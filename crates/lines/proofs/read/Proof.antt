@@ -1,5 +1,5 @@
 -- A message that is too long is not read; any other is by its lines.
-use Rattle.lines.proofs.Messages.{too-long}
+use Rattle.lines.proofs.Messages.{long-unread, long-cleared}
 use borrow.Author.Needs.{needs}
 use Rattle.lines.proofs.read.Statement.{statement}
 use Rattle.lines.proofs.read.Tie as tie
@@ -8,7 +8,7 @@ unread-requires : tie.Need-unread-requires
 unread-requires c κs = search needs
 
 returns : tie.Need-returns
-returns c = search too-long
+returns c = search (long-unread, long-cleared)
 
 class-table-requires : tie.Need-class-table-requires
 class-table-requires c κs = search needs

@@ -11,8 +11,8 @@ use Rattle.sip.specs.Output.{fieldLines}
 use Rattle.lines.specs.declared.Slot.{Slot}
 use Rattle.lines.specs.Index.{slotAt}
 use Rattle.gateway.specs.declared.Sending.{Sending}
-use Rattle.gateway.specs.Sets.{has}
-use Rattle.gateway.specs.Entries.{entryAt, entriesFrom}
+use Rattle.judgement.specs.Sets.{has}
+use Rattle.judgement.specs.Entries.{entryAt, entriesFrom}
 use Rattle.gateway.specs.Sending.{Tells, Told}
 use Rattle.gateway.specs.Sent.{lineOf}
 use Rattle.gateway.proofs.Lines.{fieldsFrom, linesFrom, lines-none, told-here, told-kept, told-not, lines-kept, lines-not}

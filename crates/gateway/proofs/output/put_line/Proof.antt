@@ -26,9 +26,6 @@ module _ (masked : Bool) (body : ℕ) (e : Entry) {f : Bool} (ef : f ≡ (masked
     fits : at + (length (nameOf (e .number)) + 2 + (length (sentValue masked body e) + 2)) ≤ length d
     fits = omega (arith, ap length (line-there masked body e ef q) ∙ line-length (e .number) (sentValue masked body e))
 
-    front-fits : (n : ℕ) → n ≡ e .number → at + (length (nameOf n) + 2) ≤ length d
-    front-fits n z = rw z (omega (arith, fits))
-
     module _ {d₁ : List ℕ} {n₁ : ℕ} (p₁ : Wrote d at (nameOf (e .number) ++ 58 ∷ 32 ∷ []) n₁ d₁) where
       front-length : length (nameOf (e .number) ++ 58 ∷ 32 ∷ []) ≡ length (nameOf (e .number)) + 2
       front-length = length-append (nameOf (e .number)) (58 ∷ 32 ∷ [])
@@ -52,7 +49,7 @@ returns : tie.Need-returns
 returns c = search none
 
 put-front-requires : tie.Need-put-front-requires
-put-front-requires c κs = search front-fits
+put-front-requires c κs = search needs
 
 put-value-requires : tie.Need-put-value-requires
 put-value-requires c κs = search (value-fits, needs)

@@ -13,7 +13,7 @@ use Rattle.emit.specs.Put.{Wrote}
 use Rattle.emit.proofs.Laws.{wrote-as}
 use Rattle.lines.specs.declared.Slot.{Slot}
 use Rattle.gateway.specs.declared.Sending.{Sending}
-use Rattle.gateway.specs.Entries.{valueAt, entryAt}
+use Rattle.judgement.specs.Entries.{valueAt, entryAt}
 use Rattle.gateway.specs.Sending.{Tells}
 use Rattle.gateway.proofs.Lines.{raw, sentAt, tagAt, sent-hops, sent-body, sent-from, from-length, sent-broken, sent-whole}
 use Rattle.gateway.proofs.output.put_value.Statement.{statement}

@@ -13,7 +13,7 @@ use Rattle.sip.specs.Output.{numeral}
 use Rattle.emit.proofs.Numerals.{numeral-le}
 use Rattle.lines.specs.declared.Slot.{Slot}
 use Rattle.gateway.specs.declared.Sending.{Sending}
-use Rattle.gateway.specs.Entries.{entryAt}
+use Rattle.judgement.specs.Entries.{entryAt}
 use Rattle.gateway.specs.Sending.{Tells}
 use Rattle.gateway.proofs.Lines.{sent-hops, sent-body, sent-broken, sent-whole, from-told, tag-le}
 use Rattle.gateway.proofs.output.value_len.Statement.{statement}

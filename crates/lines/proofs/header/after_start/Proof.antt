@@ -1,23 +1,23 @@
 -- Each answer is what the fields come to, by how they end.
-use mathlib.Core.Path.{refl}
-use Rattle.lines.specs.Index.{packed, zeros, padded}
-use Rattle.lines.proofs.Messages.{settled-unread, settled-read}
+use Rattle.lines.proofs.Messages.{cleared, settled-unread, settled-cleared, settled-read, settled-slots}
 use borrow.Author.Needs.{needs}
 use Rattle.lines.proofs.header.after_start.Statement.{statement}
 use Rattle.lines.proofs.header.after_start.Tie as tie
 
+clear-requires : tie.Need-clear-requires
+clear-requires c κs = search needs
+
 fields-requires : tie.Need-fields-requires
-unfolding padded packed zeros
-fields-requires c κs = (search needs, search needs, search needs, search needs, refl)
+fields-requires c κs = (search needs, search needs, search needs, search needs, search cleared)
 
 unread-requires : tie.Need-unread-requires
 unread-requires c κs = search needs
 
 returns : tie.Need-returns
-returns c = search settled-unread
+returns c = search (settled-unread, settled-cleared)
 
 returns-2 : tie.Need-returns-2
-returns-2 c = search settled-read
+returns-2 c = search (settled-read, settled-slots)
 
 pub after-start-spec : {M : Type 1} → statement M
-after-start-spec = tie.close (tie.spec fields-requires unread-requires returns returns-2)
+after-start-spec = tie.close (tie.spec clear-requires fields-requires unread-requires returns returns-2)

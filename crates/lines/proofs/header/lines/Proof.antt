@@ -1,5 +1,5 @@
 -- Each answer is a law of the start line.
-use Rattle.lines.proofs.Messages.{start-unread, start-is, start-room}
+use Rattle.lines.proofs.Messages.{start-unread, start-cleared, start-is, start-room}
 use borrow.Author.Needs.{needs}
 use Rattle.lines.proofs.header.lines.Statement.{statement}
 use Rattle.lines.proofs.header.lines.Tie as tie
@@ -20,7 +20,7 @@ after-start-requires : tie.Need-after-start-requires
 after-start-requires c κs = (search needs, search needs, search start-is, search start-room)
 
 returns : tie.Need-returns
-returns c = search start-unread
+returns c = search (start-unread, start-cleared)
 
 returns-2 : tie.Need-returns-2
 returns-2 c = search needs

@@ -1,0 +1,46 @@
+-- What is measured is the outgoing message (Top).
+use Rattle.gateway.proofs.Top.{told, sent-long}
+use borrow.Author.Needs.{needs}
+use Rattle.gateway.proofs.sent_len.Statement.{statement}
+use Rattle.gateway.proofs.sent_len.Tie as tie
+
+sending-of-requires : tie.Need-sending-of-requires
+sending-of-requires c κs = search needs
+
+add-before : tie.Need-add-before
+add-before c = search needs
+
+add-before-2 : tie.Need-add-before-2
+add-before-2 c = search needs
+
+lines-len-requires : tie.Need-lines-len-requires
+lines-len-requires c κs = search (told, needs)
+
+add-result : tie.Need-add-result
+add-result c = search needs
+
+add-result-2 : tie.Need-add-result-2
+add-result-2 c = search needs
+
+add-result-3 : tie.Need-add-result-3
+add-result-3 c = search needs
+
+add-result-4 : tie.Need-add-result-4
+add-result-4 c = search needs
+
+returns : tie.Need-returns
+returns c = search (sent-long, needs)
+
+pub sent-len-spec : {M : Type 1} → statement M
+sent-len-spec =
+    tie.close
+    (tie.spec
+    sending-of-requires
+    add-before
+    add-before-2
+    lines-len-requires
+    add-result
+    add-result-2
+    add-result-3
+    add-result-4
+    returns)

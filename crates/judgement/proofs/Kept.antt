@@ -1,0 +1,111 @@
+-- The pass over the slots, one slot at a time: what is kept is noted with its canonical value, and the rest of the entries is left.
+use mathlib.Core.Path.{_≡_, refl, sym, ap, _∙_}
+use mathlib.Core.Bool.{Bool, true, false, not, cond}
+use mathlib.Core.List.{List, _∷_, _++_}
+use Prim.Native.Nat.{ℕ, suc, _+_, _-_, _≤_, _<_, _^_}
+use native.Mathlib.Numerals.{add-one}
+use native.Mathlib.Omega.{arith}
+use lib.Dec.{leb}
+use lib.ListN.{length, take, drop, length-take, length-drop}
+use lib.Seq.{take-at}
+use borrow.Author.Tests.{leb-true, not-true, not-false}
+use Rattle.sip.specs.Lines.{folded}
+use Rattle.sip.proofs.Canonical.{folded-le}
+use Rattle.lines.specs.declared.Slot.{Slot}
+use Rattle.lines.specs.Index.{slotAt}
+use Rattle.emit.specs.Put.{Wrote}
+use Rattle.emit.proofs.Laws.{wrote-room}
+use Rattle.judgement.specs.declared.Finding.{Finding}
+use Rattle.judgement.specs.declared.Tally.{Tally}
+use Rattle.judgement.specs.Sets.{has}
+use Rattle.judgement.specs.Entries.{valueAt, entryAt, entriesFrom}
+use Rattle.judgement.specs.Tallies.{finding, noted, noTally, tallied}
+use Rattle.judgement.specs.Judged.{takenUp}
+use Rattle.judgement.proofs.Bounds.{tags-grow}
+use Rattle.judgement.proofs.Masks.{has-low}
+
+-- ---- a value is folded into a buffer that has room for it
+
+pub front : {z f : List ℕ} {k : ℕ} {d : List ℕ} → Wrote z 0 f k d → length f ≤ length z → take k d ≡ f
+front {z} {f} {k} {d} w h =
+    let e : (k ≡ 0 + length f) × (d ≡ take 0 z ++ (f ++ drop (0 + length f) z)) = wrote-room w (omega arith) in
+    rw (e .1) (take-at f (drop (0 + length f) z) k (omega (arith, e .0)))
+
+module _ (method : List ℕ) (n : ℕ) (v : List ℕ) (size : ℕ) (short : length v ≤ size) (least : leb size 8192 ≡ true)
+    {z : List ℕ} (room : length z ≡ size) {k : ℕ} {d : List ℕ} (w : Wrote z 0 (folded 0 v) k d) {p : List ℕ} (cut : p ≡ take k d) where
+  cut-is : p ≡ folded 0 v
+  cut-is = cut ∙ front w (omega (arith, folded-le v))
+
+  pub folded-found : {f : Finding} → f ≡ finding method n p → f ≡ finding method n (folded 0 v)
+  folded-found e = e ∙ ap (finding method n) cut-is
+
+  pub folded-bound : {x : ℕ} → x ≤ length p + 99999 → x ≤ 108191
+  folded-bound l = omega (arith, ap length cut-is, folded-le v, leb-true size 8192 least)
+
+-- ---- a value, with a line break in it or not
+
+module _ (method : List ℕ) (n : ℕ) (v : List ℕ) (broken : Bool) {f : Finding} where
+  pub plain-found : not broken ≡ true → f ≡ finding method n v → f ≡ finding method n (cond broken (folded 0 v) v)
+  plain-found z e = rw (not-true broken z) e
+
+  pub broken-found : not broken ≡ false → f ≡ finding method n (folded 0 v) → f ≡ finding method n (cond broken (folded 0 v) v)
+  broken-found z e = rw (not-false broken z) e
+
+-- ---- a slot is taken up
+
+module _ (method m : List ℕ) (kept : ℕ) (t : Tally) (s : Slot) {b : Bool} (e : b ≡ has kept (s .number)) where
+  pub skipped : not b ≡ true → t ≡ takenUp method kept m t s
+  unfolding takenUp
+  skipped q = let z : has kept (s .number) ≡ false = sym e ∙ not-true b q in rw z
+
+  module _ (q : not b ≡ false) where
+    held : has kept (s .number) ≡ true
+    held = sym e ∙ not-false b q
+
+    pub low : kept < 2 ^ 32 → s .number < 32
+    low h = has-low 32 kept (s .number) h held
+
+    pub taken : {x v : List ℕ} → x ≡ drop (s .start) m → v ≡ take (s .len) x → {f : Finding}
+        → f ≡ finding method (s .number) (cond (s .folded) (folded 0 v) v) → {r : Tally} → r ≡ noted t (s .number) f → r ≡ takenUp method kept m t s
+    unfolding takenUp valueAt
+    taken hx hv d h = rw (held, ← hx, ← hv, ← d) h
+
+pub tags-bound : (t : Tally) (n : ℕ) (f : Finding) {r : Tally} → r ≡ noted t n f → f .len ≤ 108191 → r .tags ≤ t .tags + 108191
+tags-bound t n f e l = rw e (omega (arith, tags-grow t n f))
+
+-- ---- all slots
+
+module _ (method m : List ℕ) (kept : ℕ) (ns : List ℕ) where
+  one-more : (t : Tally) (k i : ℕ)
+      → tallied method t (entriesFrom kept m ns (suc k) i) ≡ tallied method (takenUp method kept m t (slotAt ns i)) (entriesFrom kept m ns k (suc i))
+  unfolding entriesFrom tallied takenUp
+  one-more t k i = go (has kept (slotAt ns i .number))
+    where
+      go : (b : Bool)
+          → tallied method t (cond b (entryAt m (slotAt ns i) ∷ entriesFrom kept m ns k (suc i)) (entriesFrom kept m ns k (suc i)))
+          ≡ tallied method
+          (cond b (noted t (slotAt ns i .number) (finding method (slotAt ns i .number) (valueAt m (slotAt ns i)))) t)
+          (entriesFrom kept m ns k (suc i))
+      go true = refl
+      go false = refl
+
+  module _ (count : ℕ) where
+    abbrev pub whole : Tally
+    whole = tallied method noTally (entriesFrom kept m ns count 0)
+
+    pub begun : whole ≡ tallied method noTally (entriesFrom kept m ns (count - 0) 0)
+    begun = let z : count - 0 ≡ count = omega arith in rw z
+
+    module _ (t : Tally) (i : ℕ) (h : whole ≡ tallied method t (entriesFrom kept m ns (count - i) i)) where
+      pub next-slot : {s : Slot} {u : Tally} {j : ℕ} → i < count → s ≡ slotAt ns i → u ≡ takenUp method kept m t s → j ≡ i + 1
+          → whole ≡ tallied method u (entriesFrom kept m ns (count - j) j)
+      next-slot {s} {u} {j} l es eu ej =
+          let z : count - i ≡ suc (count - j) = omega arith in
+          let y : j ≡ suc i = ej ∙ add-one i in
+          let x : tallied method t (entriesFrom kept m ns (suc (count - j)) i) ≡ tallied method u (entriesFrom kept m ns (count - j) j)
+          = one-more t (count - j) i ∙ rw (eu, es) (ap (λ (k : ℕ). tallied method (takenUp method kept m t (slotAt ns i)) (entriesFrom kept m ns (count - j) k)) (sym y)) in
+          h ∙ ap (λ (k : ℕ). tallied method t (entriesFrom kept m ns k i)) z ∙ x
+
+      pub ended : count ≤ i → t ≡ whole
+      unfolding entriesFrom tallied
+      ended l = let z : count - i ≡ 0 = omega arith in sym (rw z at h)

@@ -1,0 +1,15 @@
+pub mod Choices
+pub mod Masks
+pub mod Members
+pub mod Bounds
+pub mod Good
+pub mod Each
+pub mod Totals
+pub mod Firsts
+pub mod Required
+pub mod Kept
+pub mod Decisions
+pub mod Reasons
+pub mod Parts
+pub mod Judging
+pub mod Messages

@@ -1,0 +1,71 @@
+-- Each arm's number is its column's set, which computes.
+use mathlib.Core.Path.{_≡_}
+use borrow.Author.Needs.{needs}
+use Rattle.sip.specs.declared.Column.{Column}
+use Rattle.sip.specs.declared.Column.the-variants.{Invite, Reinvite, Ack, Bye, Cancel, Options}
+use Rattle.sip.specs.Profile.{find, ignored, mark, numbers, rows}
+use Rattle.judgement.specs.Sets.{keptSet, setOf}
+use Rattle.judgement.proofs.sets.kept_set.Statement.{statement}
+use Rattle.judgement.proofs.sets.kept_set.Tie as tie
+
+at : (k : Column) {c : Column} → c ≡ k → keptSet k ≡ keptSet c
+at k e = rw e
+
+enum-told : tie.Need-enum-told
+enum-told c = search needs
+
+enum-told-2 : tie.Need-enum-told-2
+enum-told-2 c = search needs
+
+enum-told-3 : tie.Need-enum-told-3
+enum-told-3 c = search needs
+
+enum-told-4 : tie.Need-enum-told-4
+enum-told-4 c = search needs
+
+enum-told-5 : tie.Need-enum-told-5
+enum-told-5 c = search needs
+
+enum-told-6 : tie.Need-enum-told-6
+enum-told-6 c = search needs
+
+returns : tie.Need-returns
+unfolding keptSet setOf numbers rows find mark ignored
+returns c = search (at Invite)
+
+returns-2 : tie.Need-returns-2
+unfolding keptSet setOf numbers rows find mark ignored
+returns-2 c = search (at Reinvite)
+
+returns-3 : tie.Need-returns-3
+unfolding keptSet setOf numbers rows find mark ignored
+returns-3 c = search (at Ack)
+
+returns-4 : tie.Need-returns-4
+unfolding keptSet setOf numbers rows find mark ignored
+returns-4 c = search (at Bye)
+
+returns-5 : tie.Need-returns-5
+unfolding keptSet setOf numbers rows find mark ignored
+returns-5 c = search (at Cancel)
+
+returns-6 : tie.Need-returns-6
+unfolding keptSet setOf numbers rows find mark ignored
+returns-6 c = search (at Options)
+
+pub kept-set-spec : {M : Type 1} → statement M
+kept-set-spec =
+    tie.close
+    (tie.spec
+    enum-told
+    enum-told-2
+    enum-told-3
+    enum-told-4
+    enum-told-5
+    enum-told-6
+    returns
+    returns-2
+    returns-3
+    returns-4
+    returns-5
+    returns-6)

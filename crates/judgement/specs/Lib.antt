@@ -1,0 +1,5 @@
+pub mod Sets
+pub mod Entries
+pub mod Tallies
+pub mod Judged
+pub mod Judges

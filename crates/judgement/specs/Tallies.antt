@@ -1,0 +1,86 @@
+-- What a pass over the kept fields carries, and how one field changes it.
+use mathlib.Core.Bool.{Bool, true, false, not, cond, _&&_, _||_}
+use mathlib.Core.List.{List, [], _∷_}
+use Prim.Native.Nat.{ℕ, _+_, _^_}
+use lib.Bits.{bitOr}
+use lib.Dec.{eqb}
+use Rattle.sip.specs.Profile.{once}
+use Rattle.sip.specs.Values.{isEmpty, isCallId, isCSeq, party}
+use Rattle.sip.specs.Readings.{noSpan}
+use Rattle.sip.specs.Refusals.{Entry}
+use Rattle.values.specs.Answers.{wholeNumber, identityAt, privacyAt, requireAt}
+use Rattle.judgement.specs.declared.Finding.{Finding}
+use Rattle.judgement.specs.declared.Tally.{Tally}
+use Rattle.judgement.specs.Sets.{has}
+
+abbrev pub found : Bool → Bool → ℕ → ℕ → Finding
+found good flag start len = record { good = good; flag = flag; start = start; len = len }
+
+-- what is found in the value v of a field of number n
+unfoldable pub finding : List ℕ → ℕ → List ℕ → Finding
+finding method n v =
+    let hops = wholeNumber 3 255 v in
+    let length = wholeNumber 5 99999 v in
+    let p = party v in
+    let privacy = privacyAt v in
+    let tags = requireAt v in
+    let number = identityAt v in
+    cond (eqb n 1 || (eqb n 7 || (eqb n 9 || (eqb n 10 || (eqb n 11 || eqb n 18))))) (found (not (isEmpty v)) false 0 0)
+    (cond (eqb n 2) (found (not (eqb (hops .size) 0)) false 0 (hops .value))
+    (cond (eqb n 3) (found (p .good && not (eqb (p .len) 0)) false (p .tag) (p .len))
+    (cond (eqb n 4) (found (p .good) (not (eqb (p .len) 0)) 0 0)
+    (cond (eqb n 5) (found (isCallId v) false 0 0)
+    (cond (eqb n 6) (found (isCSeq method v) false 0 0)
+    (cond (eqb n 8) (found (not (eqb (length .size) 0)) false 0 (length .value))
+    (cond (eqb n 14) (found (tags .good) false (tags .first) (tags .count))
+    (cond (eqb n 15) (found (not (eqb (number .len) 0)) false (number .start) (number .len))
+    (cond (eqb n 16) (found (privacy .good) (not (eqb (privacy .first) 0)) 0 0)
+    (found true false 0 0))))))))))
+
+-- a, or b where a is 0
+abbrev pub orElse : ℕ → ℕ → ℕ
+orElse a b = cond (eqb a 0) b a
+
+-- the first field of number k is the one that comes now
+abbrev pub isFirst : Tally → ℕ → ℕ → Bool
+isFirst t k n = eqb n k && not (has (t .seen) k)
+
+-- a field of number n says more than that it is there and well formed
+unfoldable pub tellsMore : ℕ → Bool
+tellsMore n = eqb n 2 || (eqb n 3 || (eqb n 4 || (eqb n 8 || (eqb n 14 || eqb n 16))))
+
+-- the tally with a field of number n in which f was found
+unfoldable pub noted : Tally → ℕ → Finding → Tally
+noted t n f =
+    record {
+      seen = bitOr (t .seen) (2 ^ n);
+      again = orElse (t .again) (cond (once n && has (t .seen) n) n 0);
+      malformed = orElse (t .malformed) (cond (f .good) 0 n);
+      hops = cond (isFirst t 2 n) (f .len) (t .hops);
+      tagged = cond (isFirst t 4 n) (f .flag) (t .tagged);
+      withheld = cond (isFirst t 16 n) (f .flag) (t .withheld);
+      length = cond (isFirst t 8 n) (f .len) (t .length);
+      tags = cond (eqb n 14) (t .tags + f .len) (t .tags);
+      lacking = cond (eqb n 14) (orElse (t .lacking) (cond (eqb (f .start) 0) 0 (t .tags + f .start))) (t .lacking);
+      tag = cond (isFirst t 3 n) (record { start = f .start; len = f .len }) (t .tag);
+    }
+
+abbrev pub noTally : Tally
+noTally =
+    record {
+      seen = 0;
+      again = 0;
+      malformed = 0;
+      hops = 0;
+      tagged = false;
+      withheld = false;
+      length = 0;
+      tags = 0;
+      lacking = 0;
+      tag = noSpan;
+    }
+
+-- the tally with these fields after it
+unfoldable pub tallied : List ℕ → Tally → List Entry → Tally
+tallied method t [] = t
+tallied method t (e ∷ es) = tallied method (noted t (e .number) (finding method (e .number) (e .value))) es

@@ -1,0 +1,134 @@
+// What is found in one kept value. Each value is read once.
+use super::Finding;
+use super::sets;
+ghost use mathlib.Core.Path.{_≡_};
+ghost use mathlib.Core.Bool.{false, _||_};
+ghost use mathlib.Core.List.{[]};
+ghost use Prim.Native.Nat.{_+_, _≤_};
+ghost use lib.Dec.{eqb};
+ghost use lib.ListN.{length};
+ghost use Rattle.judgement.specs.Tallies.{finding, found};
+
+// A value of which only this is asked.
+fn plain(good: bool) -> Finding
+    ensures { λ r. ⌜ (r ≡ found good false 0 0) × (r .start ≡ 0) × (r .len ≡ 0) ⌝ }
+{
+    Finding {
+        good,
+        flag: false,
+        start: 0,
+        len: 0,
+    }
+}
+
+fn max_forwards(v: &[u8]) -> Finding
+    ensures { λ r. ⌜ (r ≡ finding [] 2 (now (v .entry))) × (r .start ≡ 0) × (r .len ≤ 255) ⌝ }
+{
+    let hops = values::whole_number(v, 3, 255);
+    Finding {
+        good: hops.size != 0,
+        flag: false,
+        start: 0,
+        len: hops.value as usize,
+    }
+}
+
+fn from(v: &[u8]) -> Finding
+    ensures { λ r. ⌜ (r ≡ finding [] 3 (now (v .entry))) × (r .start + r .len ≤ length (now (v .entry))) ⌝ }
+{
+    let p = values::party(v);
+    Finding {
+        good: p.good && p.len != 0,
+        flag: false,
+        start: p.tag,
+        len: p.len,
+    }
+}
+
+fn to(v: &[u8]) -> Finding
+    ensures { λ r. ⌜ (r ≡ finding [] 4 (now (v .entry))) × (r .start ≡ 0) × (r .len ≡ 0) ⌝ }
+{
+    let p = values::party(v);
+    Finding {
+        good: p.good,
+        flag: p.len != 0,
+        start: 0,
+        len: 0,
+    }
+}
+
+fn content_length(v: &[u8]) -> Finding
+    ensures { λ r. ⌜ (r ≡ finding [] 8 (now (v .entry))) × (r .start ≡ 0) × (r .len ≤ 99999) ⌝ }
+{
+    let length = values::whole_number(v, 5, 99999);
+    Finding {
+        good: length.size != 0,
+        flag: false,
+        start: 0,
+        len: length.value as usize,
+    }
+}
+
+fn require(v: &[u8]) -> Finding
+    ensures { λ r. ⌜ (r ≡ finding [] 14 (now (v .entry))) × (r .start ≤ length (now (v .entry))) × (r .len ≤ length (now (v .entry))) ⌝ }
+{
+    let tags = values::require(v);
+    Finding {
+        good: tags.good,
+        flag: false,
+        start: tags.first,
+        len: tags.count,
+    }
+}
+
+fn identity(v: &[u8]) -> Finding
+    ensures { λ r. ⌜ (r ≡ finding [] 15 (now (v .entry))) × (r .start + r .len ≤ length (now (v .entry))) ⌝ }
+{
+    let number = values::identity(v);
+    Finding {
+        good: number.len != 0,
+        flag: false,
+        start: number.start,
+        len: number.len,
+    }
+}
+
+fn privacy(v: &[u8]) -> Finding
+    ensures { λ r. ⌜ (r ≡ finding [] 16 (now (v .entry))) × (r .start ≡ 0) × (r .len ≡ 0) ⌝ }
+{
+    let tokens = values::privacy(v);
+    Finding {
+        good: tokens.good,
+        flag: tokens.first != 0,
+        start: 0,
+        len: 0,
+    }
+}
+
+// Via, Contact, Content-Type, Route, Reason and Record-Route: any value that is not empty.
+fn only_filled(n: usize) -> bool
+    ensures { λ r. ⌜ r ≡ (eqb n 1 || (eqb n 7 || (eqb n 9 || (eqb n 10 || (eqb n 11 || eqb n 18))))) ⌝ }
+{
+    sets::is_one_of(n, 1, 7, 9, 10, 11, 18)
+}
+
+// The bounds leave room to add up what many values say.
+pub(crate) fn finding(method: &[u8], n: usize, v: &[u8]) -> Finding
+    ensures { λ r. ⌜ (r ≡ finding (now (method .entry)) n (now (v .entry))) × (r .start ≤ length (now (v .entry)) + 99999) × (r .len ≤ length (now (v .entry)) + 99999) ⌝ }
+{
+    if only_filled(n) {
+        return plain(v.len() != 0);
+    }
+    match n {
+        2 => max_forwards(v),
+        3 => from(v),
+        4 => to(v),
+        5 => plain(values::is_call_id(v)),
+        6 => plain(values::is_cseq(method, v)),
+        8 => content_length(v),
+        14 => require(v),
+        15 => identity(v),
+        16 => privacy(v),
+        _ => plain(true),
+    }
+}
