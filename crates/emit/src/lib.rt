@@ -10,14 +10,15 @@ ghost use Rattle.sip.specs.Output.{numeral};
 ghost use Rattle.emit.specs.Pieces.{pieceSize};
 ghost use Rattle.emit.specs.Put.{Wrote};
 
-// A buffer of len bytes has room for size more at the place. No sum is made that could overflow.
+// A buffer of len bytes has room for size more at the place. No sum is made that could overflow; of a constant size the difference is made
+// once.
 fn has_room(len: usize, at: usize, size: usize) -> bool
     ensures { λ r. ⌜ r ≡ leb (at + size) len ⌝ }
 {
-    if len < at {
+    if len < size {
         return false;
     }
-    size <= len - at
+    at <= len - size
 }
 
 // Copies s to the place, which has room for it, and returns the place after it.
