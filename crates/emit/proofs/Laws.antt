@@ -59,18 +59,15 @@ module _ (d : List ℕ) (at : ℕ) where
       go true e = let z : at + 0 ≡ at = omega arith in put-room d at [] (leb-true (at + 0) (length d) e) ∙ rw z (take-append-drop at d)
       go false e = put-full d at [] (leb-false (at + 0) (length d) e)
 
--- ---- by the answer t whether there is room for n bytes
+-- ---- by the answer t whether there is room
 
-module _ (d : List ℕ) (at : ℕ) (s : List ℕ) {t : Bool} (n : ℕ) (e : t ≡ leb (at + n) (length d)) (l : n ≡ length s) where
-  tested : t ≡ leb (at + length s) (length d)
-  tested = e ∙ rw l
-
+module _ (d : List ℕ) (at : ℕ) (s : List ℕ) {t : Bool} (e : t ≡ leb (at + length s) (length d)) where
   pub room-yes : t ≡ true → at + length s ≤ length d
-  room-yes q = leb-true (at + length s) (length d) (sym tested ∙ q)
+  room-yes q = leb-true (at + length s) (length d) (sym e ∙ q)
 
   pub room-no : t ≡ false → Wrote d at s at d
   room-no q =
-      let h : length d < at + length s = leb-false (at + length s) (length d) (sym tested ∙ q) in
+      let h : length d < at + length s = leb-false (at + length s) (length d) (sym e ∙ q) in
       record { next = sym (next-full d at s h); holds = sym (put-full d at s h) }
 
 -- ---- two parts, one after the other

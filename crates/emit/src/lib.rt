@@ -3,11 +3,11 @@ ghost use mathlib.Core.Path.{_≡_};
 ghost use mathlib.Core.List.{[], _∷_};
 ghost use Prim.Native.Nat.{_+_, _/_, _%_, _≤_, _<_};
 ghost use lib.Dec.{leb};
-ghost use lib.ListN.{length};
-ghost use Rattle.octets.specs.Classes.{bit, isBreak, isGap};
+ghost use lib.ListN.{length, drop};
+ghost use Rattle.octets.specs.Classes.{isBreak, isGap};
+ghost use Rattle.octets.specs.Scans.{run};
 ghost use Rattle.sip.specs.Lines.{any, joined, folded, unfoldedAt};
 ghost use Rattle.sip.specs.Output.{numeral};
-ghost use Rattle.emit.specs.Pieces.{pieceSize};
 ghost use Rattle.emit.specs.Put.{Wrote};
 
 // A buffer of len bytes has room for size more at the place. No sum is made that could overflow; of a constant size the difference is made
@@ -92,23 +92,35 @@ pub fn put_number(out: &mut [u8], at: usize, n: usize) -> usize
     put(out, at, &text[zeros..])
 }
 
-// 1 for a space, a tab or a byte of a line break, else 0.
-fn gap(b: u8) -> usize
-    ensures { λ r. ⌜ r ≡ bit (isGap b) ⌝ }
+// A space, a tab or a byte of a line break.
+fn is_gap(b: u8) -> bool
+    ensures { λ r. ⌜ r ≡ isGap b ⌝ }
 {
     if b == 32 {
-        return 1;
+        return true;
     }
     if b == 9 {
-        return 1;
+        return true;
     }
     if b == 13 {
-        return 1;
+        return true;
     }
-    if b == 10 {
-        return 1;
+    b == 10
+}
+
+// Where the run of gap bytes ends that goes on at a place.
+fn gap_end(s: &[u8], at: usize) -> usize
+    requires { ⌜ at ≤ length (now s) ⌝ }
+    ensures { λ r. ⌜ (r ≡ at + run isGap (drop at (now (s .entry)))) × (r ≤ length (now (s .entry))) ⌝ }
+{
+    let mut i = at;
+    while i < s.len() {
+        if !is_gap(s[i]) {
+            return i;
+        }
+        i += 1;
     }
-    0
+    i
 }
 
 // A byte of a line break is among them.
@@ -128,23 +140,7 @@ fn has_break(g: &[u8]) -> bool
     false
 }
 
-// How many bytes at the front are alike: a maximal run of gap bytes, or one of other bytes. Either folds by itself.
-fn piece_len(s: &[u8]) -> usize
-    requires { ⌜ 0 < length (now s) ⌝ }
-    ensures { λ r. ⌜ (0 < r) × (r ≤ length (now (s .entry))) × (r ≡ pieceSize (now (s .entry))) ⌝ }
-{
-    let kind = gap(s[0]);
-    let mut n = 1;
-    while n < s.len() {
-        if gap(s[n]) != kind {
-            return n;
-        }
-        n += 1;
-    }
-    n
-}
-
-// How many bytes a piece has once it is joined.
+// How many bytes a run of gap bytes has once it is joined.
 fn joined_len(g: &[u8]) -> usize
     ensures { λ r. ⌜ (r ≡ length (joined (now (g .entry)))) × (r ≤ length (now (g .entry))) ⌝ }
 {
@@ -161,10 +157,15 @@ pub fn folded_len(v: &[u8]) -> usize
     let mut size = 0;
     let mut i = 0;
     while i < v.len() {
-        let left = octets::rest(v, i);
-        let n = piece_len(left);
-        size += joined_len(octets::first(left, n));
-        i += n;
+        if is_gap(v[i]) {
+            let next = i + 1;
+            let end = gap_end(v, next);
+            size += joined_len(&v[i..end]);
+            i = end;
+        } else {
+            size += 1;
+            i += 1;
+        }
     }
     size
 }
@@ -176,29 +177,47 @@ pub fn unfolded_at(v: &[u8], k: usize) -> usize
     let mut ahead = k;
     let mut i = 0;
     while i < v.len() {
-        let left = octets::rest(v, i);
-        let n = piece_len(left);
-        let size = joined_len(octets::first(left, n));
-        if ahead < size {
-            return i + ahead;
+        if is_gap(v[i]) {
+            let next = i + 1;
+            let end = gap_end(v, next);
+            let size = joined_len(&v[i..end]);
+            if ahead < size {
+                return i + ahead;
+            }
+            ahead -= size;
+            i = end;
+        } else {
+            if ahead < 1 {
+                return i;
+            }
+            ahead -= 1;
+            i += 1;
         }
-        ahead -= size;
-        i += n;
     }
     i
 }
 
-// Writes a piece: one space for a run of gap bytes that holds a line break.
+// Writes a byte at the place, which is in the buffer.
+fn put_byte(out: &mut [u8], at: usize, b: u8) -> usize
+    requires { ⌜ at < length (now out) ⌝ }
+    ensures { λ r. ⌜ Wrote (now (out .entry)) at (b ∷ []) r (now (out .exit)) ⌝ }
+{
+    out[at] = b;
+    at + 1
+}
+
+// Writes a run of gap bytes, joined, where there is room for it: one space where it holds a line break.
 fn put_joined(out: &mut [u8], at: usize, g: &[u8]) -> usize
+    requires { ⌜ at + length (joined (now g)) ≤ length (now out) ⌝ }
     ensures { λ r. ⌜ Wrote (now (out .entry)) at (joined (now (g .entry))) r (now (out .exit)) ⌝ }
 {
     if has_break(g) {
-        return put(out, at, b" ");
+        return put_byte(out, at, b' ');
     }
-    put(out, at, g)
+    copy(out, at, g)
 }
 
-// Writes v folded, piece by piece, where there is room for the whole.
+// Writes v folded where there is room for the whole: a byte that is no gap by itself, and a run of gap bytes at once.
 fn put_pieces(out: &mut [u8], at: usize, v: &[u8]) -> usize
     requires { ⌜ at + length (folded 0 (now v)) ≤ length (now out) ⌝ }
     ensures { λ r. ⌜ Wrote (now (out .entry)) at (folded 0 (now (v .entry))) r (now (out .exit)) ⌝ }
@@ -206,12 +225,27 @@ fn put_pieces(out: &mut [u8], at: usize, v: &[u8]) -> usize
     let mut o = at;
     let mut i = 0;
     while i < v.len() {
-        let left = octets::rest(v, i);
-        let n = piece_len(left);
-        o = put_joined(out, o, octets::first(left, n));
-        i += n;
+        if is_gap(v[i]) {
+            let next = i + 1;
+            let end = gap_end(v, next);
+            o = put_joined(out, o, &v[i..end]);
+            i = end;
+        } else {
+            o = put_byte(out, o, v[i]);
+            i += 1;
+        }
     }
     o
+}
+
+// There is room for v folded. It is never longer than v, so that it is measured only where the room is tight.
+fn has_folded_room(len: usize, at: usize, v: &[u8]) -> bool
+    ensures { λ r. ⌜ r ≡ leb (at + length (folded 0 (now (v .entry)))) len ⌝ }
+{
+    if has_room(len, at, v.len()) {
+        return true;
+    }
+    has_room(len, at, folded_len(v))
 }
 
 // Writes v with each maximal run of spaces, tabs and line breaks that holds a break as one space, and returns the place after it. Where
@@ -219,7 +253,7 @@ fn put_pieces(out: &mut [u8], at: usize, v: &[u8]) -> usize
 pub fn put_folded(out: &mut [u8], at: usize, v: &[u8]) -> usize
     ensures { λ r. ⌜ Wrote (now (out .entry)) at (folded 0 (now (v .entry))) r (now (out .exit)) ⌝ }
 {
-    if has_room(out.len(), at, folded_len(v)) {
+    if has_folded_room(out.len(), at, v) {
         return put_pieces(out, at, v);
     }
     at
