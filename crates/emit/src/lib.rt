@@ -3,7 +3,7 @@ ghost use mathlib.Core.Path.{_≡_};
 ghost use mathlib.Core.List.{[], _∷_};
 ghost use Prim.Native.Nat.{_+_, _/_, _%_, _≤_, _<_};
 ghost use lib.Dec.{leb};
-ghost use lib.ListN.{length, drop};
+ghost use lib.ListN.{length, take, drop};
 ghost use Rattle.octets.specs.Classes.{isBreak, isGap};
 ghost use Rattle.octets.specs.Scans.{run};
 ghost use Rattle.sip.specs.Lines.{any, joined, folded, unfoldedAt};
@@ -21,8 +21,8 @@ fn has_room(len: usize, at: usize, size: usize) -> bool
     at <= len - size
 }
 
-// Copies s to the place, which has room for it, and returns the place after it.
-fn copy(out: &mut [u8], at: usize, s: &[u8]) -> usize
+// Copies s byte by byte to the place, which has room for it, and returns the place after it.
+fn copy_few(out: &mut [u8], at: usize, s: &[u8]) -> usize
     requires { ⌜ at + length (now s) ≤ length (now out) ⌝ }
     ensures { λ r. ⌜ Wrote (now (out .entry)) at (now (s .entry)) r (now (out .exit)) ⌝ }
 {
@@ -32,6 +32,42 @@ fn copy(out: &mut [u8], at: usize, s: &[u8]) -> usize
         j += 1;
     }
     at + j
+}
+
+// The eight bytes from a place on.
+fn eight(s: &[u8], k: usize) -> [u8; 8]
+    requires { ⌜ k + 8 ≤ length (now s) ⌝ }
+    ensures { λ r. ⌜ r ≡ take 8 (drop k (now (s .entry))) ⌝ }
+{
+    [
+        s[k],
+        s[k + 1],
+        s[k + 2],
+        s[k + 3],
+        s[k + 4],
+        s[k + 5],
+        s[k + 6],
+        s[k + 7],
+    ]
+}
+
+// As `copy_few`, eight bytes at once: read before they are written, they move as one word. The last eight may overlap those before them.
+fn copy(out: &mut [u8], at: usize, s: &[u8]) -> usize
+    requires { ⌜ at + length (now s) ≤ length (now out) ⌝ }
+    ensures { λ r. ⌜ Wrote (now (out .entry)) at (now (s .entry)) r (now (out .exit)) ⌝ }
+{
+    if s.len() < 8 {
+        return copy_few(out, at, s);
+    }
+    let last = s.len() - 8;
+    let mut j = 0;
+    while j < last {
+        let word = eight(s, j);
+        copy_few(out, at + j, &word);
+        j += 8;
+    }
+    let word = eight(s, last);
+    copy_few(out, at + last, &word)
 }
 
 // Writes s at the place, and returns the place after it. Where there is no room the buffer and the place stay.
