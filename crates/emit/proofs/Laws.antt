@@ -1,12 +1,12 @@
 -- Laws of `putAt` and `nextAt`, by the test of the room; two puts, one after the other, by the lengths of the parts.
 use mathlib.Core.Path.{_≡_, refl, sym, ap, _∙_}
 use mathlib.Core.Bool.{Bool, true, false}
-use mathlib.Core.List.{List, [], _++_, append-assoc}
-use Prim.Native.Nat.{ℕ, _+_, _-_, _≤_, _<_}
+use mathlib.Core.List.{List, [], _∷_, _++_, append-assoc}
+use Prim.Native.Nat.{ℕ, suc, _+_, _-_, _≤_, _<_}
 use native.Mathlib.Nat.{add-assoc}
 use native.Mathlib.Omega.{arith}
-use lib.ListN.{length, take, drop, length-append, length-drop, take-append-drop}
-use lib.Seq.{length-take-le, take-length, take-append-le, take-append-add, drop-append-add, drop-drop}
+use lib.ListN.{length, take, drop, set, length-append, length-drop, length-set, take-append-drop}
+use lib.Seq.{length-take-le, take-length, take-append-le, take-append-add, drop-append-add, drop-at, drop-drop, set-split, take-set-le}
 use borrow.Author.Tests.{le-leb, lt-leb, leb-true, leb-false}
 use lib.Dec.{leb}
 use Rattle.emit.specs.Put.{putAt, nextAt, Wrote}
@@ -118,6 +118,16 @@ module _ (d : List ℕ) (at : ℕ) (a b : List ℕ) (h : at + (length a + length
 
   put-put : putAt (putAt d at a) (at + length a) b ≡ putAt d at (a ++ b)
   put-put = put-over d at a (length a) b (omega arith) (omega arith) h ∙ rw (take-length a)
+
+-- a byte is set after a, and then a is put
+pub put-last : (d : List ℕ) (at : ℕ) (a : List ℕ) (b : ℕ) → at + (length a + 1) ≤ length d → putAt (set d (at + length a) b) at a ≡ putAt d at (a ++ (b ∷ []))
+put-last d at a b h =
+    let i : ℕ = at + length a in
+    let s : set d i b ≡ take i d ++ b ∷ drop (suc i) d = set-split d i b (omega arith) in
+    let p : drop i (set d i b) ≡ b ∷ drop (suc i) d = ap (drop i) s ∙ drop-at (take i d) (b ∷ drop (suc i) d) i (length-take-le i d (omega arith)) in
+    let q : at + (length a + 1) ≡ suc i = omega arith in
+    put-room (set d i b) at a (rw length-set (omega arith))
+    ∙ rw (take-set-le at d i b (omega arith), p, put-room d at (a ++ (b ∷ [])) (rw length-append h), length-append, q, append-assoc)
 
 -- what is put after a is put with it
 module _ {d : List ℕ} {at : ℕ} {a : List ℕ} {n : ℕ} {d₁ : List ℕ} (w : Wrote d at a n d₁) where

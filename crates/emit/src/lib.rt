@@ -87,19 +87,6 @@ fn digit(n: usize) -> u8
     (48 + n % 10) as u8
 }
 
-// The last five digits of a number.
-fn five_digits(n: usize) -> [u8; 5]
-    ensures { λ r. ⌜ r ≡ (48 + n / 10000 % 10) ∷ (48 + n / 1000 % 10) ∷ (48 + n / 100 % 10) ∷ (48 + n / 10 % 10) ∷ (48 + n % 10) ∷ [] ⌝ }
-{
-    [
-        digit(n / 10000),
-        digit(n / 1000),
-        digit(n / 100),
-        digit(n / 10),
-        digit(n),
-    ]
-}
-
 // How many bytes `put_number` writes.
 pub fn numeral_len(n: usize) -> usize
     ensures { λ r. ⌜ r ≡ length (numeral n) ⌝ }
@@ -119,13 +106,23 @@ pub fn numeral_len(n: usize) -> usize
     5
 }
 
-// Writes a number's digits without leading zeros; of a number of more than five digits the last five.
+// Writes a number's digits without leading zeros, the last one first; of a number of more than five digits the last five. Where there is
+// no room the buffer and the place stay.
 pub fn put_number(out: &mut [u8], at: usize, n: usize) -> usize
     ensures { λ r. ⌜ Wrote (now (out .entry)) at (numeral n) r (now (out .exit)) ⌝ }
 {
-    let text = five_digits(n);
-    let zeros = 5 - numeral_len(n);
-    put(out, at, &text[zeros..])
+    let size = numeral_len(n);
+    if !has_room(out.len(), at, size) {
+        return at;
+    }
+    let mut left = n;
+    let mut i = size;
+    while 0 < i {
+        i -= 1;
+        out[at + i] = digit(left);
+        left /= 10;
+    }
+    at + size
 }
 
 // A space, a tab or a byte of a line break.
