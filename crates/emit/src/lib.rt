@@ -1,7 +1,7 @@
 // Writes into a lent buffer. A writer that is handed too little room writes nothing.
 ghost use mathlib.Core.Path.{_≡_};
 ghost use mathlib.Core.List.{[], _∷_};
-ghost use Prim.Native.Nat.{_+_, _/_, _%_, _≤_, _<_};
+ghost use Prim.Native.Nat.{_+_, _%_, _≤_, _<_};
 ghost use lib.Dec.{leb};
 ghost use lib.ListN.{length, take, drop};
 ghost use Rattle.octets.specs.Classes.{isBreak, isGap};
@@ -10,8 +10,7 @@ ghost use Rattle.sip.specs.Lines.{any, joined, folded, unfoldedAt};
 ghost use Rattle.sip.specs.Output.{numeral};
 ghost use Rattle.emit.specs.Put.{Wrote};
 
-// A buffer of len bytes has room for size more at the place. No sum is made that could overflow; of a constant size the difference is made
-// once.
+// A buffer of len bytes has room for size more at the place. No sum is made that could overflow. The size, mostly a constant, goes first.
 fn has_room(len: usize, at: usize, size: usize) -> bool
     ensures { λ r. ⌜ r ≡ leb (at + size) len ⌝ }
 {
