@@ -1,12 +1,12 @@
 -- Laws of `putAt` and `nextAt`, by the test of the room; two puts, one after the other, by the lengths of the parts.
 use mathlib.Core.Path.{_≡_, refl, sym, ap, _∙_}
 use mathlib.Core.Bool.{Bool, true, false}
-use mathlib.Core.List.{List, [], _++_, append-assoc}
-use Prim.Native.Nat.{ℕ, _+_, _≤_, _<_}
+use mathlib.Core.List.{List, [], _∷_, _++_, append-assoc}
+use Prim.Native.Nat.{ℕ, suc, _+_, _-_, _≤_, _<_}
 use native.Mathlib.Nat.{add-assoc}
 use native.Mathlib.Omega.{arith}
-use lib.ListN.{length, take, drop, length-append, length-drop, take-append-drop}
-use lib.Seq.{length-take-le, take-at, drop-append-add, drop-drop}
+use lib.ListN.{length, take, drop, set, length-append, length-drop, length-set, take-append-drop}
+use lib.Seq.{length-take-le, take-length, take-append-le, take-append-add, drop-append-add, drop-at, drop-drop, set-split, take-set-le}
 use borrow.Author.Tests.{le-leb, lt-leb, leb-true, leb-false}
 use lib.Dec.{leb}
 use Rattle.emit.specs.Put.{putAt, nextAt, Wrote}
@@ -59,21 +59,50 @@ module _ (d : List ℕ) (at : ℕ) where
       go true e = let z : at + 0 ≡ at = omega arith in put-room d at [] (leb-true (at + 0) (length d) e) ∙ rw z (take-append-drop at d)
       go false e = put-full d at [] (leb-false (at + 0) (length d) e)
 
--- ---- by the answer t whether there is room for n bytes
+-- ---- by the answer t whether there is room
 
-module _ (d : List ℕ) (at : ℕ) (s : List ℕ) {t : Bool} (n : ℕ) (e : t ≡ leb (at + n) (length d)) (l : n ≡ length s) where
-  tested : t ≡ leb (at + length s) (length d)
-  tested = e ∙ rw l
-
+module _ (d : List ℕ) (at : ℕ) (s : List ℕ) {t : Bool} (e : t ≡ leb (at + length s) (length d)) where
   pub room-yes : t ≡ true → at + length s ≤ length d
-  room-yes q = leb-true (at + length s) (length d) (sym tested ∙ q)
+  room-yes q = leb-true (at + length s) (length d) (sym e ∙ q)
 
   pub room-no : t ≡ false → Wrote d at s at d
   room-no q =
-      let h : length d < at + length s = leb-false (at + length s) (length d) (sym tested ∙ q) in
+      let h : length d < at + length s = leb-false (at + length s) (length d) (sym e ∙ q) in
       record { next = sym (next-full d at s h); holds = sym (put-full d at s h) }
 
 -- ---- two parts, one after the other
+
+-- b is put over the end of a, from the m-th byte on
+module _ (d : List ℕ) (at : ℕ) (a : List ℕ) (m : ℕ) (b : List ℕ) where
+  module _ (l : m ≤ length a) (k : length a ≤ m + length b) (h : at + (m + length b) ≤ length d) where
+    head-length : length (take at d) ≡ at
+    head-length = length-take-le at d (omega arith)
+
+    both-length : length (take at d ++ a) ≡ at + length a
+    both-length = rw (length-append, head-length)
+
+    kept : (r : List ℕ) → take (at + m) ((take at d ++ a) ++ r) ≡ take at d ++ take m a
+    kept r =
+        take-append-le (at + m) (take at d ++ a) r (omega (arith, both-length))
+        ∙ ap (λ (n : ℕ). take (n + m) (take at d ++ a)) (sym head-length) ∙ take-append-add (take at d) a m
+
+    left : drop (at + m + length b) ((take at d ++ a) ++ drop (at + length a) d) ≡ drop (at + m + length b) d
+    left =
+        let x : ℕ = m + length b - length a in
+        let e : at + m + length b ≡ length (take at d ++ a) + x = omega (arith, both-length) in
+        let f : at + length a + x ≡ at + m + length b = omega arith in
+        ap (λ (n : ℕ). drop n ((take at d ++ a) ++ drop (at + length a) d)) e
+        ∙ drop-append-add (take at d ++ a) (drop (at + length a) d) x ∙ drop-drop x (at + length a) d ∙ rw f
+
+    over-length : length (take m a ++ b) ≡ m + length b
+    over-length = rw (length-append, length-take-le m a l)
+
+    pub put-over : putAt (putAt d at a) (at + m) b ≡ putAt d at (take m a ++ b)
+    put-over =
+        let r : List ℕ = drop (at + length a) d in
+        let e : putAt d at a ≡ (take at d ++ a) ++ r = put-room d at a (omega arith) ∙ sym (append-assoc (take at d) a r) in
+        put-room (putAt d at a) (at + m) b (rw (length-put d at a) (omega arith))
+        ∙ rw (e, kept r, left, put-room d at (take m a ++ b) (rw over-length h), over-length, add-assoc, append-assoc, append-assoc)
 
 module _ (d : List ℕ) (at : ℕ) (a b : List ℕ) (h : at + (length a + length b) ≤ length d) where
   first-fits : at + length a ≤ length d
@@ -87,19 +116,18 @@ module _ (d : List ℕ) (at : ℕ) (a b : List ℕ) (h : at + (length a + length
       next-room (putAt d at a) (at + length a) b (rw (length-put d at a) (omega arith))
       ∙ sym (next-room d at (a ++ b) whole-fits ∙ rw length-append (omega arith))
 
-  head-length : length (take at d ++ a) ≡ at + length a
-  head-length = rw (length-append, length-take-le at d (omega arith))
-
   put-put : putAt (putAt d at a) (at + length a) b ≡ putAt d at (a ++ b)
-  put-put =
-      let r : List ℕ = drop (at + length a) d in
-      let e : putAt d at a ≡ (take at d ++ a) ++ r = put-room d at a first-fits ∙ sym (append-assoc (take at d) a r) in
-      let p : take (at + length a) ((take at d ++ a) ++ r) ≡ take at d ++ a = take-at (take at d ++ a) r (at + length a) head-length in
-      let q : drop (at + length a + length b) ((take at d ++ a) ++ r) ≡ drop (at + length a + length b) d
-      = ap (λ (n : ℕ). drop (n + length b) ((take at d ++ a) ++ r)) (sym head-length)
-      ∙ drop-append-add (take at d ++ a) r (length b) ∙ drop-drop (length b) (at + length a) d in
-      put-room (putAt d at a) (at + length a) b (rw (length-put d at a) (omega arith))
-      ∙ rw (e, p, q, put-room d at (a ++ b) whole-fits, length-append, add-assoc, append-assoc, append-assoc)
+  put-put = put-over d at a (length a) b (omega arith) (omega arith) h ∙ rw (take-length a)
+
+-- a byte is set after a, and then a is put
+pub put-last : (d : List ℕ) (at : ℕ) (a : List ℕ) (b : ℕ) → at + (length a + 1) ≤ length d → putAt (set d (at + length a) b) at a ≡ putAt d at (a ++ (b ∷ []))
+put-last d at a b h =
+    let i : ℕ = at + length a in
+    let s : set d i b ≡ take i d ++ b ∷ drop (suc i) d = set-split d i b (omega arith) in
+    let p : drop i (set d i b) ≡ b ∷ drop (suc i) d = ap (drop i) s ∙ drop-at (take i d) (b ∷ drop (suc i) d) i (length-take-le i d (omega arith)) in
+    let q : at + (length a + 1) ≡ suc i = omega arith in
+    put-room (set d i b) at a (rw length-set (omega arith))
+    ∙ rw (take-set-le at d i b (omega arith), p, put-room d at (a ++ (b ∷ [])) (rw length-append h), length-append, q, append-assoc)
 
 -- what is put after a is put with it
 module _ {d : List ℕ} {at : ℕ} {a : List ℕ} {n : ℕ} {d₁ : List ℕ} (w : Wrote d at a n d₁) where

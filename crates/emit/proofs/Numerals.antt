@@ -1,19 +1,26 @@
--- The numeral of a number is the end of its last five digits: by how many digits the number has, one clause of `digits` for each.
+-- How long the numeral of a number is, and that it is as many of the number's lowest digits: by the two clauses of `digits`.
 use mathlib.Core.Path.{_≡_, refl, sym, ap, _∙_}
 use mathlib.Core.Bool.{Bool, true, false}
 use mathlib.Core.List.{List, [], _∷_, _++_}
-use Prim.Native.Nat.{ℕ, suc, _+_, _-_, _/_, _%_, _≤_, _<_}
+use Prim.Native.Nat.{ℕ, zero, suc, _+_, _/_, _%_, _≤_, _<_}
 use native.Mathlib.Omega.{arith}
 use lib.Dec.{ltb}
-use lib.ListN.{length, drop, length-drop}
+use lib.ListN.{length, length-append}
 use borrow.Author.Tests.{lt-ltb, le-ltb, ltb-true, ltb-false}
 use Rattle.sip.specs.Output.{digits, numeral}
 
 abbrev pub last : ℕ → ℕ
 last n = 48 + n % 10
 
-abbrev pub five : ℕ → List ℕ
-five n = last (n / 10000) ∷ last (n / 1000) ∷ last (n / 100) ∷ last (n / 10) ∷ last n ∷ []
+-- the i lowest digits
+unfoldable pub lowest : ℕ → ℕ → List ℕ
+lowest zero n = []
+lowest (suc i) n = lowest i (n / 10) ++ (last n ∷ [])
+
+pub lowest-length : (i n : ℕ) → length (lowest i n) ≡ i
+unfolding lowest
+lowest-length zero n = refl
+lowest-length (suc i) n = rw length-append (omega (arith, lowest-length i (n / 10)))
 
 below-or-not : {P : Type 0} (a b : ℕ) → (a < b → P) → (b ≤ a → P) → P
 below-or-not {P} a b less not-less = go (ltb a b) refl
@@ -22,86 +29,65 @@ below-or-not {P} a b less not-less = go (ltb a b) refl
     go true e = less (ltb-true a b e)
     go false e = not-less (ltb-false a b e)
 
-one : (k n : ℕ) → n < 10 → digits (suc k) n ≡ last n ∷ []
+module _ (k n : ℕ) where
+  one : n < 10 → digits (suc k) n ≡ last n ∷ []
+  unfolding digits
+  one h = let z : n % 10 ≡ n = omega arith in rw (lt-ltb n 10 h, z)
+
+  more : 10 ≤ n → digits (suc k) n ≡ digits k (n / 10) ++ (last n ∷ [])
+  unfolding digits
+  more h = rw (le-ltb n 10 h)
+
+  one-length : n < 10 → length (digits (suc k) n) ≡ 1
+  one-length h = ap length (one h)
+
+  more-length : 10 ≤ n → length (digits (suc k) n) ≡ length (digits k (n / 10)) + 1
+  more-length h = ap length (more h) ∙ length-append (digits k (n / 10)) (last n ∷ [])
+
+digits-le : (k n : ℕ) → length (digits k n) ≤ k
 unfolding digits
-one k n h = let z : n % 10 ≡ n = omega arith in rw (lt-ltb n 10 h, z)
-
-more : (k n : ℕ) → 10 ≤ n → digits (suc k) n ≡ digits k (n / 10) ++ (last n ∷ [])
-unfolding digits
-more k n h = rw (le-ltb n 10 h)
-
--- at most one digit
-top : (n : ℕ) → digits 1 n ≡ last n ∷ []
-unfolding digits
-top n = below-or-not n 10 (one 0 n) (more 0 n)
-
-module _ (n : ℕ) where
-  hundreds : n / 10 / 10 ≡ n / 100
-  hundreds = omega arith
-
-  thousands : n / 10 / 10 / 10 ≡ n / 1000
-  thousands = omega arith
-
-  ten-thousands : n / 10 / 10 / 10 / 10 ≡ n / 10000
-  ten-thousands = omega arith
-
-  numeral1 : n < 10 → numeral n ≡ drop 4 (five n)
-  numeral1 h = one 4 n h
-
-  numeral2 : 10 ≤ n → n < 100 → numeral n ≡ drop 3 (five n)
-  numeral2 l h = more 4 n l ∙ rw (one 3 (n / 10) (omega arith))
-
-  numeral3 : 100 ≤ n → n < 1000 → numeral n ≡ drop 2 (five n)
-  numeral3 l h = more 4 n (omega arith) ∙ rw (more 3 (n / 10) (omega arith), hundreds, one 2 (n / 100) (omega arith))
-
-  numeral4 : 1000 ≤ n → n < 10000 → numeral n ≡ drop 1 (five n)
-  numeral4 l h =
-      more 4 n (omega arith)
-      ∙ rw (more 3 (n / 10) (omega arith), more 2 (n / 10 / 10) (omega arith), thousands, hundreds, one 1 (n / 1000) (omega arith))
-
-  numeral5 : 10000 ≤ n → numeral n ≡ five n
-  numeral5 l =
-      more 4 n (omega arith) ∙ rw (more 3 (n / 10) (omega arith), more 2 (n / 10 / 10) (omega arith), more 1 (n / 10 / 10 / 10) (omega arith))
-      (rw (ten-thousands, thousands, hundreds, top (n / 10000)))
-
-  -- ---- lengths
-
-  pub len1 : n < 10 → 1 ≡ length (numeral n)
-  len1 h = sym (ap length (numeral1 h))
-
-  pub len2 : 10 ≤ n → n < 100 → 2 ≡ length (numeral n)
-  len2 l h = sym (ap length (numeral2 l h))
-
-  pub len3 : 100 ≤ n → n < 1000 → 3 ≡ length (numeral n)
-  len3 l h = sym (ap length (numeral3 l h))
-
-  pub len4 : 1000 ≤ n → n < 10000 → 4 ≡ length (numeral n)
-  len4 l h = sym (ap length (numeral4 l h))
-
-  pub len5 : 10000 ≤ n → 5 ≡ length (numeral n)
-  len5 l = sym (ap length (numeral5 l))
-
--- the numeral is what is left of the five digits after its leading zeros
-record Ends (n : ℕ) : Type 0 where
-  zeros : ℕ
-  few : zeros ≤ 4
-  is : numeral n ≡ drop zeros (five n)
-
-ends : (n : ℕ) → Ends n
-ends n =
-    below-or-not n 10 (λ h. record { zeros = 4; few = omega arith; is = numeral1 n h })
-    (λ a. below-or-not n 100 (λ h. record { zeros = 3; few = omega arith; is = numeral2 n a h })
-    (λ b. below-or-not n 1000 (λ h. record { zeros = 2; few = omega arith; is = numeral3 n b h })
-    (λ c. below-or-not n 10000 (λ h. record { zeros = 1; few = omega arith; is = numeral4 n c h })
-    (λ d. record { zeros = 0; few = omega arith; is = numeral5 n d }))))
-
-ends-length : (n : ℕ) → length (numeral n) ≡ 5 - ends n .zeros
-ends-length n = ap length (ends n .is) ∙ length-drop (ends n .zeros) (five n)
+digits-le zero n = omega arith
+digits-le (suc k) n =
+    below-or-not n 10 (λ h. omega (arith, one-length k n h)) (λ h. omega (arith, more-length k n h, digits-le k (n / 10)))
 
 pub numeral-le : (n : ℕ) → length (numeral n) ≤ 5
-numeral-le n = omega (arith, ends-length n)
+numeral-le n = digits-le 5 n
 
-pub numeral-is : (n : ℕ) → numeral n ≡ drop (5 - length (numeral n)) (five n)
-numeral-is n =
-    let z : 5 - length (numeral n) ≡ ends n .zeros = omega (arith, ends-length n, ends n .few) in
-    ends n .is ∙ ap (λ (k : ℕ). drop k (five n)) (sym z)
+digits-lowest : (k n : ℕ) → digits k n ≡ lowest (length (digits k n)) n
+unfolding digits lowest
+digits-lowest zero n = refl
+digits-lowest (suc k) n =
+    below-or-not n 10 (λ h. rw (one k n h)) (λ h.
+    let z : length (digits (suc k) n) ≡ suc (length (digits k (n / 10))) = omega (arith, more-length k n h) in
+    more k n h ∙ rw (z, ← digits-lowest k (n / 10)))
+
+pub numeral-lowest : (n : ℕ) → lowest (length (numeral n)) n ≡ numeral n
+numeral-lowest n = sym (digits-lowest 5 n)
+
+-- ---- lengths
+
+module _ (n : ℕ) where
+  pub len1 : n < 10 → 1 ≡ length (numeral n)
+  len1 h = sym (one-length 4 n h)
+
+  pub len2 : 10 ≤ n → n < 100 → 2 ≡ length (numeral n)
+  len2 l h = omega (arith, more-length 4 n l, one-length 3 (n / 10) (omega arith))
+
+  two-more : 100 ≤ n → length (numeral n) ≡ length (digits 3 (n / 10 / 10)) + 2
+  two-more l = omega (arith, more-length 4 n (omega arith), more-length 3 (n / 10) (omega arith))
+
+  pub len3 : 100 ≤ n → n < 1000 → 3 ≡ length (numeral n)
+  len3 l h = omega (arith, two-more l, one-length 2 (n / 10 / 10) (omega arith))
+
+  three-more : 1000 ≤ n → length (numeral n) ≡ length (digits 2 (n / 10 / 10 / 10)) + 3
+  three-more l = omega (arith, two-more (omega arith), more-length 2 (n / 10 / 10) (omega arith))
+
+  pub len4 : 1000 ≤ n → n < 10000 → 4 ≡ length (numeral n)
+  len4 l h = omega (arith, three-more (omega arith), one-length 1 (n / 10 / 10 / 10) (omega arith))
+
+  pub len5 : 10000 ≤ n → 5 ≡ length (numeral n)
+  unfolding digits
+  len5 l =
+      let x : ℕ = n / 10 / 10 / 10 in
+      let top : length (digits 1 (x / 10)) ≡ 1 = below-or-not (x / 10) 10 (one-length 0 (x / 10)) (more-length 0 (x / 10)) in
+      omega (arith, three-more (omega arith), more-length 1 x (omega arith), top)

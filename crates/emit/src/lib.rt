@@ -1,27 +1,27 @@
 // Writes into a lent buffer. A writer that is handed too little room writes nothing.
 ghost use mathlib.Core.Path.{_≡_};
 ghost use mathlib.Core.List.{[], _∷_};
-ghost use Prim.Native.Nat.{_+_, _/_, _%_, _≤_, _<_};
+ghost use Prim.Native.Nat.{_+_, _%_, _≤_, _<_};
 ghost use lib.Dec.{leb};
-ghost use lib.ListN.{length};
-ghost use Rattle.octets.specs.Classes.{bit, isBreak, isGap};
+ghost use lib.ListN.{length, take, drop};
+ghost use Rattle.octets.specs.Classes.{isBreak, isGap};
+ghost use Rattle.octets.specs.Scans.{run};
 ghost use Rattle.sip.specs.Lines.{any, joined, folded, unfoldedAt};
 ghost use Rattle.sip.specs.Output.{numeral};
-ghost use Rattle.emit.specs.Pieces.{pieceSize};
 ghost use Rattle.emit.specs.Put.{Wrote};
 
-// A buffer of len bytes has room for size more at the place. No sum is made that could overflow.
+// A buffer of len bytes has room for size more at the place. No sum is made that could overflow. The size, mostly a constant, goes first.
 fn has_room(len: usize, at: usize, size: usize) -> bool
     ensures { λ r. ⌜ r ≡ leb (at + size) len ⌝ }
 {
-    if len < at {
+    if len < size {
         return false;
     }
-    size <= len - at
+    at <= len - size
 }
 
-// Copies s to the place, which has room for it, and returns the place after it.
-fn copy(out: &mut [u8], at: usize, s: &[u8]) -> usize
+// Copies s byte by byte to the place, which has room for it, and returns the place after it.
+fn copy_few(out: &mut [u8], at: usize, s: &[u8]) -> usize
     requires { ⌜ at + length (now s) ≤ length (now out) ⌝ }
     ensures { λ r. ⌜ Wrote (now (out .entry)) at (now (s .entry)) r (now (out .exit)) ⌝ }
 {
@@ -31,6 +31,42 @@ fn copy(out: &mut [u8], at: usize, s: &[u8]) -> usize
         j += 1;
     }
     at + j
+}
+
+// The eight bytes from a place on.
+fn eight(s: &[u8], k: usize) -> [u8; 8]
+    requires { ⌜ k + 8 ≤ length (now s) ⌝ }
+    ensures { λ r. ⌜ r ≡ take 8 (drop k (now (s .entry))) ⌝ }
+{
+    [
+        s[k],
+        s[k + 1],
+        s[k + 2],
+        s[k + 3],
+        s[k + 4],
+        s[k + 5],
+        s[k + 6],
+        s[k + 7],
+    ]
+}
+
+// As `copy_few`, eight bytes at once: read before they are written, they move as one word. The last eight may overlap those before them.
+fn copy(out: &mut [u8], at: usize, s: &[u8]) -> usize
+    requires { ⌜ at + length (now s) ≤ length (now out) ⌝ }
+    ensures { λ r. ⌜ Wrote (now (out .entry)) at (now (s .entry)) r (now (out .exit)) ⌝ }
+{
+    if s.len() < 8 {
+        return copy_few(out, at, s);
+    }
+    let last = s.len() - 8;
+    let mut j = 0;
+    while j < last {
+        let word = eight(s, j);
+        copy_few(out, at + j, &word);
+        j += 8;
+    }
+    let word = eight(s, last);
+    copy_few(out, at + last, &word)
 }
 
 // Writes s at the place, and returns the place after it. Where there is no room the buffer and the place stay.
@@ -48,19 +84,6 @@ fn digit(n: usize) -> u8
     ensures { λ r. ⌜ r ≡ 48 + n % 10 ⌝ }
 {
     (48 + n % 10) as u8
-}
-
-// The last five digits of a number.
-fn five_digits(n: usize) -> [u8; 5]
-    ensures { λ r. ⌜ r ≡ (48 + n / 10000 % 10) ∷ (48 + n / 1000 % 10) ∷ (48 + n / 100 % 10) ∷ (48 + n / 10 % 10) ∷ (48 + n % 10) ∷ [] ⌝ }
-{
-    [
-        digit(n / 10000),
-        digit(n / 1000),
-        digit(n / 100),
-        digit(n / 10),
-        digit(n),
-    ]
 }
 
 // How many bytes `put_number` writes.
@@ -82,32 +105,54 @@ pub fn numeral_len(n: usize) -> usize
     5
 }
 
-// Writes a number's digits without leading zeros; of a number of more than five digits the last five.
+// Writes a number's digits without leading zeros, the last one first; of a number of more than five digits the last five. Where there is
+// no room the buffer and the place stay.
 pub fn put_number(out: &mut [u8], at: usize, n: usize) -> usize
     ensures { λ r. ⌜ Wrote (now (out .entry)) at (numeral n) r (now (out .exit)) ⌝ }
 {
-    let text = five_digits(n);
-    let zeros = 5 - numeral_len(n);
-    put(out, at, &text[zeros..])
+    let size = numeral_len(n);
+    if !has_room(out.len(), at, size) {
+        return at;
+    }
+    let mut left = n;
+    let mut i = size;
+    while 0 < i {
+        i -= 1;
+        out[at + i] = digit(left);
+        left /= 10;
+    }
+    at + size
 }
 
-// 1 for a space, a tab or a byte of a line break, else 0.
-fn gap(b: u8) -> usize
-    ensures { λ r. ⌜ r ≡ bit (isGap b) ⌝ }
+// A space, a tab or a byte of a line break.
+fn is_gap(b: u8) -> bool
+    ensures { λ r. ⌜ r ≡ isGap b ⌝ }
 {
     if b == 32 {
-        return 1;
+        return true;
     }
     if b == 9 {
-        return 1;
+        return true;
     }
     if b == 13 {
-        return 1;
+        return true;
     }
-    if b == 10 {
-        return 1;
+    b == 10
+}
+
+// Where the run of gap bytes ends that goes on at a place.
+fn gap_end(s: &[u8], at: usize) -> usize
+    requires { ⌜ at ≤ length (now s) ⌝ }
+    ensures { λ r. ⌜ (r ≡ at + run isGap (drop at (now (s .entry)))) × (r ≤ length (now (s .entry))) ⌝ }
+{
+    let mut i = at;
+    while i < s.len() {
+        if !is_gap(s[i]) {
+            return i;
+        }
+        i += 1;
     }
-    0
+    i
 }
 
 // A byte of a line break is among them.
@@ -127,23 +172,7 @@ fn has_break(g: &[u8]) -> bool
     false
 }
 
-// How many bytes at the front are alike: a maximal run of gap bytes, or one of other bytes. Either folds by itself.
-fn piece_len(s: &[u8]) -> usize
-    requires { ⌜ 0 < length (now s) ⌝ }
-    ensures { λ r. ⌜ (0 < r) × (r ≤ length (now (s .entry))) × (r ≡ pieceSize (now (s .entry))) ⌝ }
-{
-    let kind = gap(s[0]);
-    let mut n = 1;
-    while n < s.len() {
-        if gap(s[n]) != kind {
-            return n;
-        }
-        n += 1;
-    }
-    n
-}
-
-// How many bytes a piece has once it is joined.
+// How many bytes a run of gap bytes has once it is joined.
 fn joined_len(g: &[u8]) -> usize
     ensures { λ r. ⌜ (r ≡ length (joined (now (g .entry)))) × (r ≤ length (now (g .entry))) ⌝ }
 {
@@ -160,10 +189,15 @@ pub fn folded_len(v: &[u8]) -> usize
     let mut size = 0;
     let mut i = 0;
     while i < v.len() {
-        let left = octets::rest(v, i);
-        let n = piece_len(left);
-        size += joined_len(octets::first(left, n));
-        i += n;
+        if is_gap(v[i]) {
+            let next = i + 1;
+            let end = gap_end(v, next);
+            size += joined_len(&v[i..end]);
+            i = end;
+        } else {
+            size += 1;
+            i += 1;
+        }
     }
     size
 }
@@ -175,29 +209,47 @@ pub fn unfolded_at(v: &[u8], k: usize) -> usize
     let mut ahead = k;
     let mut i = 0;
     while i < v.len() {
-        let left = octets::rest(v, i);
-        let n = piece_len(left);
-        let size = joined_len(octets::first(left, n));
-        if ahead < size {
-            return i + ahead;
+        if is_gap(v[i]) {
+            let next = i + 1;
+            let end = gap_end(v, next);
+            let size = joined_len(&v[i..end]);
+            if ahead < size {
+                return i + ahead;
+            }
+            ahead -= size;
+            i = end;
+        } else {
+            if ahead < 1 {
+                return i;
+            }
+            ahead -= 1;
+            i += 1;
         }
-        ahead -= size;
-        i += n;
     }
     i
 }
 
-// Writes a piece: one space for a run of gap bytes that holds a line break.
+// Writes a byte at the place, which is in the buffer.
+fn put_byte(out: &mut [u8], at: usize, b: u8) -> usize
+    requires { ⌜ at < length (now out) ⌝ }
+    ensures { λ r. ⌜ Wrote (now (out .entry)) at (b ∷ []) r (now (out .exit)) ⌝ }
+{
+    out[at] = b;
+    at + 1
+}
+
+// Writes a run of gap bytes, joined, where there is room for it: one space where it holds a line break.
 fn put_joined(out: &mut [u8], at: usize, g: &[u8]) -> usize
+    requires { ⌜ at + length (joined (now g)) ≤ length (now out) ⌝ }
     ensures { λ r. ⌜ Wrote (now (out .entry)) at (joined (now (g .entry))) r (now (out .exit)) ⌝ }
 {
     if has_break(g) {
-        return put(out, at, b" ");
+        return put_byte(out, at, b' ');
     }
-    put(out, at, g)
+    copy(out, at, g)
 }
 
-// Writes v folded, piece by piece, where there is room for the whole.
+// Writes v folded where there is room for the whole: a byte that is no gap by itself, and a run of gap bytes at once.
 fn put_pieces(out: &mut [u8], at: usize, v: &[u8]) -> usize
     requires { ⌜ at + length (folded 0 (now v)) ≤ length (now out) ⌝ }
     ensures { λ r. ⌜ Wrote (now (out .entry)) at (folded 0 (now (v .entry))) r (now (out .exit)) ⌝ }
@@ -205,12 +257,27 @@ fn put_pieces(out: &mut [u8], at: usize, v: &[u8]) -> usize
     let mut o = at;
     let mut i = 0;
     while i < v.len() {
-        let left = octets::rest(v, i);
-        let n = piece_len(left);
-        o = put_joined(out, o, octets::first(left, n));
-        i += n;
+        if is_gap(v[i]) {
+            let next = i + 1;
+            let end = gap_end(v, next);
+            o = put_joined(out, o, &v[i..end]);
+            i = end;
+        } else {
+            o = put_byte(out, o, v[i]);
+            i += 1;
+        }
     }
     o
+}
+
+// There is room for v folded. It is never longer than v, so that it is measured only where the room is tight.
+fn has_folded_room(len: usize, at: usize, v: &[u8]) -> bool
+    ensures { λ r. ⌜ r ≡ leb (at + length (folded 0 (now (v .entry)))) len ⌝ }
+{
+    if has_room(len, at, v.len()) {
+        return true;
+    }
+    has_room(len, at, folded_len(v))
 }
 
 // Writes v with each maximal run of spaces, tabs and line breaks that holds a break as one space, and returns the place after it. Where
@@ -218,7 +285,7 @@ fn put_pieces(out: &mut [u8], at: usize, v: &[u8]) -> usize
 pub fn put_folded(out: &mut [u8], at: usize, v: &[u8]) -> usize
     ensures { λ r. ⌜ Wrote (now (out .entry)) at (folded 0 (now (v .entry))) r (now (out .exit)) ⌝ }
 {
-    if has_room(out.len(), at, folded_len(v)) {
+    if has_folded_room(out.len(), at, v) {
         return put_pieces(out, at, v);
     }
     at

@@ -1,15 +1,17 @@
 -- `emit::put_pieces` meets its contract. The invariant: what is left, folded and put now, gives what the whole, put at once, would give.
 use mathlib.Core.Path.{_≡_, refl, ap, _∙_}
-use mathlib.Core.List.{List, _++_}
-use Prim.Native.Nat.{ℕ, _+_, _-_, _≤_}
+use mathlib.Core.Bool.{Bool, true, false}
+use mathlib.Core.List.{List, [], _∷_, _++_}
+use Prim.Native.Nat.{ℕ, _+_, _-_, _≤_, _<_}
 use native.Mathlib.Omega.{arith}
-use lib.ListN.{length, take, drop, length-append}
+use lib.ListN.{length, take, drop, getD, length-append}
 use borrow.Author.Needs.{needs}
+use Rattle.octets.specs.Classes.{isGap}
+use Rattle.octets.specs.Scans.{run}
 use Rattle.sip.specs.Lines.{joined, folded}
 use Rattle.emit.specs.Put.{putAt, nextAt, Wrote}
 use Rattle.emit.proofs.Laws.{next-nil, put-nil, next-after, put-after, wrote-room, wrote-length}
-use Rattle.emit.specs.Pieces.{pieceSize}
-use Rattle.emit.proofs.Pieces.{folded-at, folded-end}
+use Rattle.emit.proofs.Pieces.{byte-folded, run-folded, folded-end}
 use Rattle.emit.proofs.put_pieces.Statement.{statement}
 use Rattle.emit.proofs.put_pieces.Tie as tie
 
@@ -24,16 +26,32 @@ module _ (d : List ℕ) (at : ℕ) (v : List ℕ) (d′ : List ℕ) (o i : ℕ) 
   finish : length v ≤ i → Wrote d at (folded 0 v) o d′
   finish h = rw (folded-end v h, next-nil, put-nil) at (g .wrote)
 
-  module _ {t : List ℕ} (left : t ≡ drop i v) (n : ℕ) (cut : n ≡ pieceSize t) where
-    again : {p : List ℕ} {r j : ℕ} {d″ : List ℕ} → p ≡ take n t → Wrote d′ o (joined p) r d″ → j ≡ i + n → Left d at v d″ r j
-    again {p} {r} {j} {d″} a w z =
-        let x : List ℕ = folded 0 (drop j v) in
-        let e : folded 0 (drop i v) ≡ joined p ++ x = folded-at v i left n cut a z in
-        let h : o + (length (joined p) + length x) ≤ length d′ = omega (arith, g .room, ap length e ∙ length-append (joined p) x) in
+  -- the piece x is put, and the text is left from j on
+  module _ (x : List ℕ) (j : ℕ) (e : folded 0 (drop i v) ≡ x ++ folded 0 (drop j v)) where
+    fits : o + (length x + length (folded 0 (drop j v))) ≤ length d′
+    fits = omega (arith, g .room, ap length e ∙ length-append x (folded 0 (drop j v)))
+
+    after : {r : ℕ} {d″ : List ℕ} → Wrote d′ o x r d″ → Left d at v d″ r j
+    after w =
+        let y : List ℕ = folded 0 (drop j v) in
         record {
-          room = omega (arith, wrote-room w (omega arith) .0, wrote-length w);
-          wrote = rw (next-after w x h, put-after w x h, ← e) (g .wrote);
+          room = omega (arith, fits, wrote-room w (omega (arith, fits)) .0, wrote-length w);
+          wrote = rw (next-after w y fits, put-after w y fits, ← e) (g .wrote);
         }
+
+  module _ (h : i < length v) {t : Bool} (q : t ≡ isGap (getD v i 0)) where
+    byte-fits : t ≡ false → o < length d′
+    byte-fits y = omega (arith, fits (getD v i 0 ∷ []) (i + 1) (byte-folded v i h q y refl))
+
+    after-byte : {j r : ℕ} {d″ : List ℕ} → t ≡ false → j ≡ i + 1 → Wrote d′ o (getD v i 0 ∷ []) r d″ → Left d at v d″ r j
+    after-byte {j} y z w = after (getD v i 0 ∷ []) j (byte-folded v i h q y z) w
+
+    module _ (y : t ≡ true) {j n : ℕ} (z : j ≡ i + 1) (r : n ≡ j + run isGap (drop j v)) {p : List ℕ} (a : p ≡ take (n - i) (drop i v)) where
+      gap-fits : o + length (joined p) ≤ length d′
+      gap-fits = omega (arith, fits (joined p) n (run-folded v i h q y z r a))
+
+      after-gap : {m : ℕ} {d″ : List ℕ} → Wrote d′ o (joined p) m d″ → Left d at v d″ m n
+      after-gap w = after (joined p) n (run-folded v i h q y z r a) w
 
 abbrev Inv-loop : tie.InvT-loop
 Inv-loop out₀ at v o₀ i₀ out o i = (i ≤ length v) × (length out ≡ length out₀) × Left out₀ at v out o i
@@ -44,26 +62,50 @@ abbrev μ-loop : tie.MeasureT-loop
 loop-holds : tie.Need-loop-holds Inv-loop μ-loop
 loop-holds c = search (begin, needs)
 
-rest-requires : tie.Need-rest-requires Inv-loop μ-loop
-rest-requires c κs = search needs
+shared-slice-read-is-gap : tie.Need-shared-slice-read-is-gap Inv-loop μ-loop
+shared-slice-read-is-gap c = search needs
 
-piece-len-requires : tie.Need-piece-len-requires Inv-loop μ-loop
-piece-len-requires c κs = search needs
+is-gap-requires : tie.Need-is-gap-requires Inv-loop μ-loop
+is-gap-requires c κs = search needs
 
-first-requires : tie.Need-first-requires Inv-loop μ-loop
-first-requires c κs = search needs
+add-next : tie.Need-add-next Inv-loop μ-loop
+add-next c = search needs
+
+gap-end-requires : tie.Need-gap-end-requires Inv-loop μ-loop
+gap-end-requires c κs = search needs
+
+sub-put-joined : tie.Need-sub-put-joined Inv-loop μ-loop
+sub-put-joined c = search needs
+
+part-put-joined-start : tie.Need-part-put-joined-start Inv-loop μ-loop
+part-put-joined-start c = search needs
+
+part-put-joined-end : tie.Need-part-put-joined-end Inv-loop μ-loop
+part-put-joined-end c = search needs
 
 put-joined-requires : tie.Need-put-joined-requires Inv-loop μ-loop
-put-joined-requires c κs = search needs
-
-add-i : tie.Need-add-i Inv-loop μ-loop
-add-i c = search needs
+put-joined-requires c κs = search gap-fits
 
 loop-less : tie.Need-loop-less Inv-loop μ-loop
 loop-less c = search needs
 
 loop-again : tie.Need-loop-again Inv-loop μ-loop
-loop-again c = search (again, needs)
+loop-again c = search (after-gap, needs)
+
+shared-slice-read-put-byte : tie.Need-shared-slice-read-put-byte Inv-loop μ-loop
+shared-slice-read-put-byte c = search needs
+
+put-byte-requires : tie.Need-put-byte-requires Inv-loop μ-loop
+put-byte-requires c κs = search byte-fits
+
+add-i : tie.Need-add-i Inv-loop μ-loop
+add-i c = search needs
+
+loop-less-2 : tie.Need-loop-less-2 Inv-loop μ-loop
+loop-less-2 c = search needs
+
+loop-again-2 : tie.Need-loop-again-2 Inv-loop μ-loop
+loop-again-2 c = search (after-byte, needs)
 
 same-length : tie.Need-same-length Inv-loop μ-loop
 same-length c = search needs
@@ -78,12 +120,20 @@ put-pieces-spec =
     Inv-loop
     μ-loop
     loop-holds
-    rest-requires
-    piece-len-requires
-    first-requires
+    shared-slice-read-is-gap
+    is-gap-requires
+    add-next
+    gap-end-requires
+    sub-put-joined
+    part-put-joined-start
+    part-put-joined-end
     put-joined-requires
-    add-i
     loop-less
     loop-again
+    shared-slice-read-put-byte
+    put-byte-requires
+    add-i
+    loop-less-2
+    loop-again-2
     same-length
     returns)

@@ -1,0 +1,97 @@
+-- `emit::eight` meets its contract, one byte after the other.
+use mathlib.Core.Path.{_≡_, refl, sym, ap}
+use mathlib.Core.List.{List, [], _∷_}
+use Prim.Native.Nat.{ℕ, suc, _+_, _≤_, _<_}
+use native.Mathlib.Omega.{arith}
+use lib.ListN.{length, take, drop, getD}
+use borrow.Author.Needs.{needs}
+use Rattle.octets.proofs.Places.{drop1}
+use Rattle.emit.proofs.eight.Statement.{statement}
+use Rattle.emit.proofs.eight.Tie as tie
+
+module _ (s : List ℕ) where
+  more : (n k j : ℕ) {x : List ℕ} → k < length s → j ≡ k + 1 → take n (drop j s) ≡ x → take (suc n) (drop k s) ≡ getD s k 0 ∷ x
+  more n k j h z e = rw (drop1 s k h, ← z) (ap (λ (l : List ℕ). getD s k 0 ∷ l) e)
+
+  taken : (k : ℕ) → k + 8 ≤ length s
+      → getD s k 0 ∷ getD s (k + 1) 0 ∷ getD s (k + 2) 0 ∷ getD s (k + 3) 0 ∷ getD s (k + 4) 0 ∷ getD s (k + 5) 0 ∷ getD s (k + 6) 0 ∷ getD s (k + 7) 0 ∷ []
+      ≡ take 8 (drop k s)
+  taken k h =
+      sym
+      (more 7 k (k + 1) (omega arith) refl
+      (more 6 (k + 1) (k + 2) (omega arith) (omega arith)
+      (more 5 (k + 2) (k + 3) (omega arith) (omega arith)
+      (more 4 (k + 3) (k + 4) (omega arith) (omega arith)
+      (more 3 (k + 4) (k + 5) (omega arith) (omega arith)
+      (more 2 (k + 5) (k + 6) (omega arith) (omega arith)
+      (more 1 (k + 6) (k + 7) (omega arith) (omega arith)
+      (more 0 (k + 7) (k + 8) (omega arith) (omega arith) refl))))))))
+
+shared-slice-read-t4 : tie.Need-shared-slice-read-t4
+shared-slice-read-t4 c = search needs
+
+add-t5 : tie.Need-add-t5
+add-t5 c = search needs
+
+shared-slice-read-t7 : tie.Need-shared-slice-read-t7
+shared-slice-read-t7 c = search needs
+
+add-t8 : tie.Need-add-t8
+add-t8 c = search needs
+
+shared-slice-read-t10 : tie.Need-shared-slice-read-t10
+shared-slice-read-t10 c = search needs
+
+add-t11 : tie.Need-add-t11
+add-t11 c = search needs
+
+shared-slice-read-t13 : tie.Need-shared-slice-read-t13
+shared-slice-read-t13 c = search needs
+
+add-t14 : tie.Need-add-t14
+add-t14 c = search needs
+
+shared-slice-read-t16 : tie.Need-shared-slice-read-t16
+shared-slice-read-t16 c = search needs
+
+add-t17 : tie.Need-add-t17
+add-t17 c = search needs
+
+shared-slice-read-t19 : tie.Need-shared-slice-read-t19
+shared-slice-read-t19 c = search needs
+
+add-t20 : tie.Need-add-t20
+add-t20 c = search needs
+
+shared-slice-read-t22 : tie.Need-shared-slice-read-t22
+shared-slice-read-t22 c = search needs
+
+add-t23 : tie.Need-add-t23
+add-t23 c = search needs
+
+shared-slice-read-t25 : tie.Need-shared-slice-read-t25
+shared-slice-read-t25 c = search needs
+
+returns : tie.Need-returns
+returns c = search taken
+
+pub eight-spec : {M : Type 1} → statement M
+eight-spec =
+    tie.close
+    (tie.spec
+    shared-slice-read-t4
+    add-t5
+    shared-slice-read-t7
+    add-t8
+    shared-slice-read-t10
+    add-t11
+    shared-slice-read-t13
+    add-t14
+    shared-slice-read-t16
+    add-t17
+    shared-slice-read-t19
+    add-t20
+    shared-slice-read-t22
+    add-t23
+    shared-slice-read-t25
+    returns)
