@@ -33,7 +33,7 @@ const NO_PARTY: PartyAt = PartyAt {
 const NO_SPAN: Span = Span { start: 0, len: 0 };
 
 // A display name with the blanks after it. 0 where there is none.
-fn display(table: &[u16; 256], s: &[u8]) -> usize
+fn display(table: &[u8; 256], s: &[u8]) -> usize
     requires { ⌜ now table ≡ classTable ⌝ }
     ensures { λ r. ⌜ (r ≡ display (now (s .entry))) × (r ≤ length (now (s .entry))) ⌝ }
 {
@@ -48,7 +48,7 @@ fn display(table: &[u16; 256], s: &[u8]) -> usize
 }
 
 // A URI and `>`, after the display name and `<`. Both are parts of one slice, so that no sum wraps.
-fn bracketed(table: &[u16; 256], name: usize, s: &[u8]) -> AddressAt
+fn bracketed(table: &[u8; 256], name: usize, s: &[u8]) -> AddressAt
     requires { ⌜ (now table ≡ classTable) × (name + length (now s) < 9223372036854775808) ⌝ }
     ensures { λ r. ⌜ (r ≡ bracketed name (now (s .entry))) × (r .size ≤ name + length (now (s .entry)) + 1) × (r .at + r .uri .size ≤ r .size) × (r .uri .user + 4 ≤ r .uri .size + 4 * (1 - r .size)) ⌝ }
 {
@@ -66,7 +66,7 @@ fn bracketed(table: &[u16; 256], name: usize, s: &[u8]) -> AddressAt
 }
 
 // Either form of address. The last bound says that the user, or a tel URI's number, stands in the URI behind four bytes.
-pub(crate) fn address(table: &[u16; 256], s: &[u8]) -> AddressAt
+pub(crate) fn address(table: &[u8; 256], s: &[u8]) -> AddressAt
     requires { ⌜ now table ≡ classTable ⌝ }
     ensures { λ r. ⌜ (r ≡ address (now (s .entry))) × (r .size ≤ length (now (s .entry))) × (r .at + r .uri .size ≤ r .size) × (r .uri .user + 4 ≤ r .uri .size + 4 * (1 - r .size)) ⌝ }
 {
@@ -94,7 +94,7 @@ pub(crate) fn address(table: &[u16; 256], s: &[u8]) -> AddressAt
 }
 
 // From or To: nothing may stand after the address and the parameters.
-pub(crate) fn party(table: &[u16; 256], v: &[u8]) -> PartyAt
+pub(crate) fn party(table: &[u8; 256], v: &[u8]) -> PartyAt
     requires { ⌜ now table ≡ classTable ⌝ }
     ensures { λ r. ⌜ (r ≡ party (now (v .entry))) × (r .tag + r .len ≤ length (now (v .entry))) ⌝ }
 {
@@ -116,7 +116,7 @@ pub(crate) fn party(table: &[u16; 256], v: &[u8]) -> PartyAt
 }
 
 // P-Asserted-Identity: nothing may stand after the address, and the number stands behind the four bytes of the scheme.
-pub(crate) fn identity(table: &[u16; 256], v: &[u8]) -> Span
+pub(crate) fn identity(table: &[u8; 256], v: &[u8]) -> Span
     requires { ⌜ now table ≡ classTable ⌝ }
     ensures { λ r. ⌜ (r ≡ identityAt (now (v .entry))) × (r .start + r .len ≤ length (now (v .entry))) ⌝ }
 {

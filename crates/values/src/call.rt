@@ -6,7 +6,7 @@ ghost use Rattle.octets.specs.Classes.{classTable};
 ghost use Rattle.sip.specs.Values.{isCSeq, isCallId};
 
 // A number, blanks, and the method of the start line.
-pub(crate) fn cseq(table: &[u16; 256], method: &[u8], v: &[u8]) -> bool
+pub(crate) fn cseq(table: &[u8; 256], method: &[u8], v: &[u8]) -> bool
     requires { ⌜ now table ≡ classTable ⌝ }
     ensures { λ r. ⌜ r ≡ isCSeq (now (method .entry)) (now (v .entry)) ⌝ }
 {
@@ -24,7 +24,7 @@ pub(crate) fn cseq(table: &[u16; 256], method: &[u8], v: &[u8]) -> bool
 }
 
 // 1 to 128 visible bytes.
-pub(crate) fn call_id(table: &[u16; 256], v: &[u8]) -> bool
+pub(crate) fn call_id(table: &[u8; 256], v: &[u8]) -> bool
     requires { ⌜ now table ≡ classTable ⌝ }
     ensures { λ r. ⌜ r ≡ isCallId (now (v .entry)) ⌝ }
 {

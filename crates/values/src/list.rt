@@ -53,7 +53,7 @@ fn place(id: bool, earlier: usize, before: usize, t: &[u8]) -> usize
 }
 
 // One loop for both lists: `sep` parts the tokens, `id` says which are looked for.
-pub(crate) fn list(table: &[u16; 256], sep: u8, id: bool, v: &[u8]) -> ListAt
+pub(crate) fn list(table: &[u8; 256], sep: u8, id: bool, v: &[u8]) -> ListAt
     requires { ⌜ now table ≡ classTable ⌝ }
     ensures { λ r. ⌜ r ≡ listAt sep (λ (t : List ℕ). cond id (sameText (text "id") t) (isLacking t)) (now (v .entry)) ⌝ }
 {

@@ -17,7 +17,7 @@ const NO_PARAM: ParamAt = ParamAt {
 };
 
 // A parameter's value: a token or a quoted string; that of a tag is a token of 1 to 64 bytes.
-fn param_value(table: &[u16; 256], is_tag: bool, s: &[u8]) -> usize
+fn param_value(table: &[u8; 256], is_tag: bool, s: &[u8]) -> usize
     requires { ⌜ now table ≡ classTable ⌝ }
     ensures { λ r. ⌜ (r ≡ paramValue «is_tag» (now (s .entry))) × (r ≤ length (now (s .entry))) ⌝ }
 {
@@ -35,7 +35,7 @@ fn param_value(table: &[u16; 256], is_tag: bool, s: &[u8]) -> usize
 }
 
 // What stands after the first `named` bytes of a parameter, up to its name. Both are parts of one slice, so that no sum wraps.
-fn param_rest(table: &[u16; 256], named: usize, is_tag: bool, s: &[u8]) -> ParamAt
+fn param_rest(table: &[u8; 256], named: usize, is_tag: bool, s: &[u8]) -> ParamAt
     requires { ⌜ (now table ≡ classTable) × (named + length (now s) < 9223372036854775808) ⌝ }
     ensures { λ r. ⌜ (r ≡ paramRest named «is_tag» (now (s .entry))) × (r .size ≤ named + length (now (s .entry))) × (r .value + r .len ≤ r .size) ⌝ }
 {
@@ -66,7 +66,7 @@ fn param_rest(table: &[u16; 256], named: usize, is_tag: bool, s: &[u8]) -> Param
 }
 
 // The parameter at the front of a text. It is the tag by its whole name, in any case.
-fn param(table: &[u16; 256], s: &[u8]) -> ParamAt
+fn param(table: &[u8; 256], s: &[u8]) -> ParamAt
     requires { ⌜ now table ≡ classTable ⌝ }
     ensures { λ r. ⌜ (r ≡ param (now (s .entry))) × (r .size ≤ length (now (s .entry))) × (r .value + r .len ≤ r .size) ⌝ }
 {
@@ -119,7 +119,7 @@ fn with_param(got: ParamsAt, p: ParamAt) -> ParamsAt
 }
 
 // The parameters at the front of a text, up to what is none or a second tag.
-pub(crate) fn params(table: &[u16; 256], s: &[u8]) -> ParamsAt
+pub(crate) fn params(table: &[u8; 256], s: &[u8]) -> ParamsAt
     requires { ⌜ now table ≡ classTable ⌝ }
     ensures { λ r. ⌜ (r ≡ params noParams 0 (now (s .entry))) × (r .size ≤ length (now (s .entry))) × (r .tag + r .len ≤ r .size) ⌝ }
 {

@@ -14,7 +14,7 @@ ghost use Rattle.sip.specs.Refusals.{otherScheme};
 ghost use Rattle.values.specs.Answers.{requestUri};
 
 // `+`, a digit 1 to 9, then 6 to 14 digits, and nothing after them.
-pub(crate) fn global(table: &[u16; 256], s: &[u8]) -> bool
+pub(crate) fn global(table: &[u8; 256], s: &[u8]) -> bool
     requires { ⌜ now table ≡ classTable ⌝ }
     ensures { λ r. ⌜ r ≡ isGlobal (now (s .entry)) ⌝ }
 {
@@ -49,7 +49,7 @@ pub(crate) fn person_size(u: UriAt) -> usize
 }
 
 // 2 to 6 digits, and nothing after them.
-fn short(table: &[u16; 256], s: &[u8]) -> bool
+fn short(table: &[u8; 256], s: &[u8]) -> bool
     requires { ⌜ now table ≡ classTable ⌝ }
     ensures { λ r. ⌜ r ≡ isShort (now (s .entry)) ⌝ }
 {
@@ -63,7 +63,7 @@ fn short(table: &[u16; 256], s: &[u8]) -> bool
 }
 
 // A number alone, or a number, `;` and any bytes.
-fn called(table: &[u16; 256], s: &[u8]) -> bool
+fn called(table: &[u8; 256], s: &[u8]) -> bool
     requires { ⌜ now table ≡ classTable ⌝ }
     ensures { λ r. ⌜ r ≡ isCalled (now (s .entry)) ⌝ }
 {
@@ -75,7 +75,7 @@ fn called(table: &[u16; 256], s: &[u8]) -> bool
 }
 
 // A token and a colon stand there, and the token is neither sip nor tel.
-fn other_scheme(table: &[u16; 256], u: &[u8]) -> bool
+fn other_scheme(table: &[u8; 256], u: &[u8]) -> bool
     requires { ⌜ now table ≡ classTable ⌝ }
     ensures { λ r. ⌜ r ≡ otherScheme (now (u .entry)) ⌝ }
 {
@@ -106,7 +106,7 @@ fn fills(size: usize, whole: usize) -> bool
     size == whole
 }
 
-pub(crate) fn request(table: &[u16; 256], u: &[u8]) -> RequestUri
+pub(crate) fn request(table: &[u8; 256], u: &[u8]) -> RequestUri
     requires { ⌜ now table ≡ classTable ⌝ }
     ensures { λ r. ⌜ r ≡ requestUri (now (u .entry)) ⌝ }
 {

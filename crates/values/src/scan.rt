@@ -9,37 +9,37 @@ ghost use Rattle.octets.specs.Scans.{run, runEscaped};
 ghost use Rattle.sip.specs.Values.{sign};
 
 // A token's bytes, and blanks between tokens: what a display name without quotes is made of.
-const NAME: u16 = 3;
+const NAME: u8 = 3;
 
-pub(crate) fn tokens(table: &[u16; 256], s: &[u8]) -> usize
+pub(crate) fn tokens(table: &[u8; 256], s: &[u8]) -> usize
     requires { ⌜ now table ≡ classTable ⌝ }
     ensures { λ r. ⌜ (r ≡ run isToken (now (s .entry))) × (r ≤ length (now (s .entry))) ⌝ }
 {
     octets::run(table, s, octets::TOKEN)
 }
 
-pub(crate) fn blanks(table: &[u16; 256], s: &[u8]) -> usize
+pub(crate) fn blanks(table: &[u8; 256], s: &[u8]) -> usize
     requires { ⌜ now table ≡ classTable ⌝ }
     ensures { λ r. ⌜ (r ≡ run isBlank (now (s .entry))) × (r ≤ length (now (s .entry))) ⌝ }
 {
     octets::run(table, s, octets::BLANK)
 }
 
-pub(crate) fn digits(table: &[u16; 256], s: &[u8]) -> usize
+pub(crate) fn digits(table: &[u8; 256], s: &[u8]) -> usize
     requires { ⌜ now table ≡ classTable ⌝ }
     ensures { λ r. ⌜ (r ≡ run isDigit (now (s .entry))) × (r ≤ length (now (s .entry))) ⌝ }
 {
     octets::run(table, s, octets::DIGIT)
 }
 
-pub(crate) fn hosts(table: &[u16; 256], s: &[u8]) -> usize
+pub(crate) fn hosts(table: &[u8; 256], s: &[u8]) -> usize
     requires { ⌜ now table ≡ classTable ⌝ }
     ensures { λ r. ⌜ (r ≡ run isHost (now (s .entry))) × (r ≤ length (now (s .entry))) ⌝ }
 {
     octets::run(table, s, octets::HOST)
 }
 
-pub(crate) fn visible(table: &[u16; 256], s: &[u8]) -> usize
+pub(crate) fn visible(table: &[u8; 256], s: &[u8]) -> usize
     requires { ⌜ now table ≡ classTable ⌝ }
     ensures { λ r. ⌜ (r ≡ run isVisible (now (s .entry))) × (r ≤ length (now (s .entry))) ⌝ }
 {
@@ -47,7 +47,7 @@ pub(crate) fn visible(table: &[u16; 256], s: &[u8]) -> usize
 }
 
 // Tokens and blanks, in any order.
-pub(crate) fn names(table: &[u16; 256], s: &[u8]) -> usize
+pub(crate) fn names(table: &[u8; 256], s: &[u8]) -> usize
     requires { ⌜ now table ≡ classTable ⌝ }
     ensures { λ r. ⌜ (r ≡ run (λ (c : ℕ). isToken c || isBlank c) (now (s .entry))) × (r ≤ length (now (s .entry))) ⌝ }
 {
@@ -55,7 +55,7 @@ pub(crate) fn names(table: &[u16; 256], s: &[u8]) -> usize
 }
 
 // Bytes of a user, or in an escape.
-pub(crate) fn users(table: &[u16; 256], s: &[u8]) -> usize
+pub(crate) fn users(table: &[u8; 256], s: &[u8]) -> usize
     requires { ⌜ now table ≡ classTable ⌝ }
     ensures { λ r. ⌜ (r ≡ runEscaped isUser 0 (now (s .entry))) × (r ≤ length (now (s .entry))) ⌝ }
 {
@@ -63,7 +63,7 @@ pub(crate) fn users(table: &[u16; 256], s: &[u8]) -> usize
 }
 
 // Bytes of a tail, or in an escape.
-pub(crate) fn parameters(table: &[u16; 256], s: &[u8]) -> usize
+pub(crate) fn parameters(table: &[u8; 256], s: &[u8]) -> usize
     requires { ⌜ now table ≡ classTable ⌝ }
     ensures { λ r. ⌜ (r ≡ runEscaped isParameter 0 (now (s .entry))) × (r ≤ length (now (s .entry))) ⌝ }
 {
@@ -71,7 +71,7 @@ pub(crate) fn parameters(table: &[u16; 256], s: &[u8]) -> usize
 }
 
 // The byte b with any blanks around it. 0 where it does not stand there.
-pub(crate) fn sign(table: &[u16; 256], b: u8, s: &[u8]) -> usize
+pub(crate) fn sign(table: &[u8; 256], b: u8, s: &[u8]) -> usize
     requires { ⌜ now table ≡ classTable ⌝ }
     ensures { λ r. ⌜ (r ≡ sign b (now (s .entry))) × (r ≤ length (now (s .entry))) ⌝ }
 {

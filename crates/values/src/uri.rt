@@ -18,7 +18,7 @@ pub(crate) const NO_URI: UriAt = UriAt {
 };
 
 // 1 to 253 letters, digits, `-` and `.`.
-fn host(table: &[u16; 256], s: &[u8]) -> usize
+fn host(table: &[u8; 256], s: &[u8]) -> usize
     requires { ⌜ now table ≡ classTable ⌝ }
     ensures { λ r. ⌜ (r ≡ host (now (s .entry))) × (r ≤ length (now (s .entry))) ⌝ }
 {
@@ -47,7 +47,7 @@ fn port(s: &[u8]) -> usize
 }
 
 // Where a colon follows the host, so must a port.
-fn host_port(table: &[u16; 256], s: &[u8]) -> usize
+fn host_port(table: &[u8; 256], s: &[u8]) -> usize
     requires { ⌜ now table ≡ classTable ⌝ }
     ensures { λ r. ⌜ (r ≡ hostPort (now (s .entry))) × (r ≤ length (now (s .entry))) ⌝ }
 {
@@ -67,7 +67,7 @@ fn host_port(table: &[u16; 256], s: &[u8]) -> usize
 }
 
 // `;` and any parameter bytes after it.
-fn tail(table: &[u16; 256], s: &[u8]) -> usize
+fn tail(table: &[u8; 256], s: &[u8]) -> usize
     requires { ⌜ now table ≡ classTable ⌝ }
     ensures { λ r. ⌜ (r ≡ tail (now (s .entry))) × (r ≤ length (now (s .entry))) ⌝ }
 {
@@ -79,7 +79,7 @@ fn tail(table: &[u16; 256], s: &[u8]) -> usize
 }
 
 // Host, port and tail. The n bytes of the URI before them hold `sip:` and the user.
-fn sip_from(table: &[u16; 256], n: usize, user: usize, s: &[u8]) -> UriAt
+fn sip_from(table: &[u8; 256], n: usize, user: usize, s: &[u8]) -> UriAt
     requires { ⌜ (now table ≡ classTable) × (user + 4 ≤ n) × (n + length (now s) ≤ 18446744073709551615) ⌝ }
     ensures { λ r. ⌜ (r ≡ sipFrom n user (now (s .entry))) × (r .size ≤ n + length (now (s .entry))) × (r .tail ≤ r .size) × (r .user + 4 ≤ r .tail + 4 * (1 - r .size)) ⌝ }
 {
@@ -98,7 +98,7 @@ fn sip_from(table: &[u16; 256], n: usize, user: usize, s: &[u8]) -> UriAt
 }
 
 // What stands after `sip:`.
-fn sip(table: &[u16; 256], s: &[u8]) -> UriAt
+fn sip(table: &[u8; 256], s: &[u8]) -> UriAt
     requires { ⌜ now table ≡ classTable ⌝ }
     ensures { λ r. ⌜ (r ≡ sip (now (s .entry))) × (r .size ≤ length (now (s .entry)) + 4) × (r .tail ≤ r .size) × (r .user + 4 ≤ r .tail + 4 * (1 - r .size)) ⌝ }
 {
@@ -117,7 +117,7 @@ fn sip(table: &[u16; 256], s: &[u8]) -> UriAt
 }
 
 // What stands after `tel:`.
-fn tel(table: &[u16; 256], s: &[u8]) -> UriAt
+fn tel(table: &[u8; 256], s: &[u8]) -> UriAt
     requires { ⌜ now table ≡ classTable ⌝ }
     ensures { λ r. ⌜ (r ≡ tel (now (s .entry))) × (r .size ≤ length (now (s .entry)) + 4) × (r .tail ≤ r .size) × (r .user + 4 ≤ r .tail + 4 * (1 - r .size)) ⌝ }
 {
@@ -141,7 +141,7 @@ fn tel(table: &[u16; 256], s: &[u8]) -> UriAt
 }
 
 // The last bound: the user stands behind four bytes and before the tail. It holds where there is no URI too, with a size of 0.
-pub(crate) fn uri(table: &[u16; 256], s: &[u8]) -> UriAt
+pub(crate) fn uri(table: &[u8; 256], s: &[u8]) -> UriAt
     requires { ⌜ now table ≡ classTable ⌝ }
     ensures { λ r. ⌜ (r ≡ uri (now (s .entry))) × (r .size ≤ length (now (s .entry))) × (r .tail ≤ r .size) × (r .user + 4 ≤ r .tail + 4 * (1 - r .size)) ⌝ }
 {

@@ -54,9 +54,6 @@ shared-slice-read-b c = search needs
 cast-b : tie.Need-cast-b Inv-loop μ-loop
 cast-b c = omega (arith, c .shared-slice-known2 .given (c .before .before .loop .i))
 
-mul-if1 : tie.Need-mul-if1 Inv-loop μ-loop
-mul-if1 c = omega (arith, c .shared-slice-known2 .given (c .before .before .loop .i))
-
 element-copy-out-if1 : tie.Need-element-copy-out-if1 Inv-loop μ-loop
 element-copy-out-if1 c = omega (arith, c .shared-slice-known2 .given (c .before .before .loop .i))
 
@@ -102,7 +99,6 @@ run-escaped-spec =
     loop-holds
     shared-slice-read-b
     cast-b
-    mul-if1
     element-copy-out-if1
     add-i
     loop-less
