@@ -126,6 +126,19 @@ pub fn first(s: &[u8], n: usize) -> &[u8]
     &s[..n]
 }
 
+// The `len` bytes from `start` on, or as many as there are. Most parts lie within the text, and are one slice.
+pub fn part(s: &[u8], start: usize, len: usize) -> &[u8]
+    ensures { λ r. ⌜ (now r ≡ take len (drop start (now (s .entry)))) × (length (now r) ≡ min len (length (now (s .entry)) - start)) ⌝ }
+{
+    if start <= s.len() {
+        if len <= s.len() - start {
+            let end = start + len;
+            return &s[start..end];
+        }
+    }
+    first(rest(s, start), len)
+}
+
 // 1 where the first byte is b, else 0: how many bytes to pass over.
 pub fn ahead(s: &[u8], b: u8) -> usize
     ensures { λ r. ⌜ (r ≡ bit (starts b (now (s .entry)))) × (r ≤ length (now (s .entry))) ⌝ }
@@ -278,11 +291,11 @@ fn escape_at(s: &[u8], i: usize) -> bool
     is_hex(s[low])
 }
 
-// How many of the leading bytes are in a class of the mask, by the table that is lent, or in an escape.
+// How many of the leading bytes are in a class of the mask, by the table that is lent, or in an escape. Most texts have no escape, and are one run.
 pub fn run_escaped(table: &[u8; 256], s: &[u8], mask: u8) -> usize
     ensures { λ r. ⌜ (r ≡ runEscaped (inTable (now (table .entry)) mask) 0 (now (s .entry))) × (r ≤ length (now (s .entry))) ⌝ }
 {
-    let mut i = 0;
+    let mut i = run(table, s, mask);
     while i < s.len() {
         let b = s[i] as usize;
         if table[b] & mask != 0 {

@@ -1,5 +1,5 @@
 -- `octets::rest` meets its contract: past the end nothing is left, and before it the part of the slice is all that is left.
-use mathlib.Core.Path.{_≡_, sym, ap, _∙_}
+use mathlib.Core.Path.{_≡_, sym}
 use mathlib.Core.List.{List, []}
 use Prim.Native.Nat.{ℕ, _-_, _≤_}
 use native.Mathlib.Omega.{arith}
@@ -15,9 +15,6 @@ module _ (s : List ℕ) (n : ℕ) where
 
   some : take (length s - n) (drop n s) ≡ drop n s
   some = take-all (length s - n) (drop n s) (simp length-drop (omega arith))
-
-  long : length (take (length s - n) (drop n s)) ≡ length s - n
-  long = ap length some ∙ length-drop n s
 
 slice-aggregate-result : tie.Need-slice-aggregate-result
 slice-aggregate-result c = search needs
@@ -35,7 +32,7 @@ part-result-end : tie.Need-part-result-end
 part-result-end c = search needs
 
 returns-2 : tie.Need-returns-2
-returns-2 c = search (some, long)
+returns-2 c = search (some, needs)
 
 pub rest-spec : {M : Type 1} → statement M
 rest-spec =
