@@ -4,6 +4,7 @@ use super::person::global;
 use super::person::person_size;
 use super::scan::blanks;
 use super::scan::names;
+use super::scan::past;
 use super::scan::tokens;
 use super::uri::NO_URI;
 use super::uri::uri;
@@ -39,7 +40,7 @@ fn display(table: &[u8; 256], s: &[u8]) -> usize
 {
     let quote = octets::quoted(s);
     if 0 < quote {
-        return quote + blanks(table, octets::rest(s, quote));
+        return quote + blanks(table, past(s, quote));
     }
     if tokens(table, s) < 1 {
         return 0;
@@ -57,7 +58,7 @@ fn bracketed(table: &[u8; 256], name: usize, s: &[u8]) -> AddressAt
     if inner < 1 {
         return NO_ADDRESS;
     }
-    if octets::ahead(octets::rest(s, inner), b'>') < 1 {
+    if octets::ahead(past(s, inner), b'>') < 1 {
         return NO_ADDRESS;
     }
     let at = name + 1;
@@ -71,9 +72,9 @@ pub(crate) fn address(table: &[u8; 256], s: &[u8]) -> AddressAt
     ensures { λ r. ⌜ (r ≡ address (now (s .entry))) × (r .size ≤ length (now (s .entry))) × (r .at + r .uri .size ≤ r .size) × (r .uri .user + 4 ≤ r .uri .size + 4 * (1 - r .size)) ⌝ }
 {
     let name = display(table, s);
-    if 0 < octets::ahead(octets::rest(s, name), b'<') {
+    if 0 < octets::ahead(past(s, name), b'<') {
         let next = name + 1;
-        return bracketed(table, name, octets::rest(s, next));
+        return bracketed(table, name, past(s, next));
     }
     let u = uri(table, s);
     if u.size < 1 {
@@ -102,7 +103,7 @@ pub(crate) fn party(table: &[u8; 256], v: &[u8]) -> PartyAt
     if a.size < 1 {
         return NO_PARTY;
     }
-    let p = params(table, octets::rest(v, a.size));
+    let p = params(table, past(v, a.size));
     let end = a.size + p.size;
     if end != v.len() {
         return NO_PARTY;
@@ -127,7 +128,7 @@ pub(crate) fn identity(table: &[u8; 256], v: &[u8]) -> Span
     let start = a.at + 4;
     let u = a.uri;
     let len = person_size(u);
-    if !global(table, octets::first(octets::rest(v, start), len)) {
+    if !global(table, octets::part(v, start, len)) {
         return NO_SPAN;
     }
     if a.size == v.len() {

@@ -1,5 +1,6 @@
 // CSeq and Call-ID.
 use super::scan::blanks;
+use super::scan::past;
 use super::scan::visible;
 ghost use mathlib.Core.Path.{_≡_};
 ghost use Rattle.octets.specs.Classes.{classTable};
@@ -15,12 +16,12 @@ pub(crate) fn cseq(table: &[u8; 256], method: &[u8], v: &[u8]) -> bool
     if size < 1 {
         return false;
     }
-    let gap = blanks(table, octets::rest(v, size));
+    let gap = blanks(table, past(v, size));
     if gap < 1 {
         return false;
     }
     let next = size + gap;
-    octets::same(method, octets::rest(v, next))
+    octets::same(method, past(v, next))
 }
 
 // 1 to 128 visible bytes.

@@ -1,5 +1,6 @@
 // Lists of tokens: Privacy and Require.
 use super::ListAt;
+use super::scan::past;
 use super::scan::sign;
 use super::scan::tokens;
 ghost use mathlib.Core.Path.{_≡_};
@@ -61,14 +62,14 @@ pub(crate) fn list(table: &[u8; 256], sep: u8, id: bool, v: &[u8]) -> ListAt
     let mut count = 0;
     let mut first = 0;
     while at < v.len() {
-        let left = octets::rest(v, at);
+        let left = past(v, at);
         let size = tokens(table, left);
         if size < 1 {
             return NO_LIST;
         }
         first = place(id, first, count, octets::first(left, size));
         count += 1;
-        let after = octets::rest(left, size);
+        let after = past(left, size);
         if after.len() < 1 {
             return ListAt {
                 good: true,

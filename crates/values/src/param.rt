@@ -1,4 +1,5 @@
 // The parameters of From and To, after the address.
+use super::scan::past;
 use super::scan::sign;
 use super::scan::tokens;
 use sip::ParamAt;
@@ -51,7 +52,7 @@ fn param_rest(table: &[u8; 256], named: usize, is_tag: bool, s: &[u8]) -> ParamA
             len: 0,
         };
     }
-    let len = param_value(table, is_tag, octets::rest(s, equal));
+    let len = param_value(table, is_tag, past(s, equal));
     if len < 1 {
         return NO_PARAM;
     }
@@ -74,14 +75,14 @@ fn param(table: &[u8; 256], s: &[u8]) -> ParamAt
     if semicolon < 1 {
         return NO_PARAM;
     }
-    let after = octets::rest(s, semicolon);
+    let after = past(s, semicolon);
     let name = tokens(table, after);
     if name < 1 {
         return NO_PARAM;
     }
     let is_tag = octets::same_text(b"tag", octets::first(after, name));
     let named = semicolon + name;
-    param_rest(table, named, is_tag, octets::rest(after, name))
+    param_rest(table, named, is_tag, past(after, name))
 }
 
 // No parameter, or a second tag.
@@ -130,7 +131,7 @@ pub(crate) fn params(table: &[u8; 256], s: &[u8]) -> ParamsAt
     };
     while got.size < s.len() {
         let at = got.size;
-        let p = param(table, octets::rest(s, at));
+        let p = param(table, past(s, at));
         if stops(got, p) {
             return got;
         }

@@ -1,6 +1,7 @@
 // The number that a URI holds: what an identity asserts and a Request-URI calls.
 use super::RequestUri;
 use super::scan::digits;
+use super::scan::past;
 use super::scan::tokens;
 use super::scan::until;
 use super::uri::uri;
@@ -21,7 +22,7 @@ pub(crate) fn global(table: &[u8; 256], s: &[u8]) -> bool
     if octets::ahead(s, b'+') < 1 {
         return false;
     }
-    let number = octets::rest(s, 1);
+    let number = past(s, 1);
     if 0 < octets::ahead(number, b'0') {
         return false;
     }
@@ -112,7 +113,7 @@ pub(crate) fn request(table: &[u8; 256], u: &[u8]) -> RequestUri
 {
     let found = uri(table, u);
     let size = person_size(found);
-    let person = octets::first(octets::rest(u, 4), size);
+    let person = octets::part(u, 4, size);
     let other = other_scheme(table, u);
     let good = fills(found.size, u.len());
     let called = called(table, person);

@@ -1,9 +1,9 @@
 // Runs of a class by the lent class table, and a byte with blanks around it.
 ghost use mathlib.Core.Path.{_≡_};
 ghost use mathlib.Core.Bool.{not, _||_};
-ghost use Prim.Native.Nat.{ℕ, _≤_};
+ghost use Prim.Native.Nat.{ℕ, _-_, _≤_};
 ghost use lib.Dec.{eqb};
-ghost use lib.ListN.{length};
+ghost use lib.ListN.{length, drop};
 ghost use Rattle.octets.specs.Classes.{classTable, isToken, isBlank, isDigit, isHost, isVisible, isUser, isParameter};
 ghost use Rattle.octets.specs.Scans.{run, runEscaped};
 ghost use Rattle.sip.specs.Values.{sign};
@@ -70,17 +70,25 @@ pub(crate) fn parameters(table: &[u8; 256], s: &[u8]) -> usize
     octets::run_escaped(table, s, octets::PARAMETER)
 }
 
+// What stands past the first n bytes, which are there.
+pub(crate) fn past(s: &[u8], n: usize) -> &[u8]
+    requires { ⌜ n ≤ length (now s) ⌝ }
+    ensures { λ r. ⌜ (now r ≡ drop n (now (s .entry))) × (length (now r) ≡ length (now (s .entry)) - n) ⌝ }
+{
+    &s[n..]
+}
+
 // The byte b with any blanks around it. 0 where it does not stand there.
 pub(crate) fn sign(table: &[u8; 256], b: u8, s: &[u8]) -> usize
     requires { ⌜ now table ≡ classTable ⌝ }
     ensures { λ r. ⌜ (r ≡ sign b (now (s .entry))) × (r ≤ length (now (s .entry))) ⌝ }
 {
     let before = blanks(table, s);
-    if octets::ahead(octets::rest(s, before), b) < 1 {
+    if octets::ahead(past(s, before), b) < 1 {
         return 0;
     }
     let next = before + 1;
-    let after = blanks(table, octets::rest(s, next));
+    let after = blanks(table, past(s, next));
     next + after
 }
 

@@ -2,6 +2,7 @@
 use super::scan::digits;
 use super::scan::hosts;
 use super::scan::parameters;
+use super::scan::past;
 use super::scan::users;
 use sip::UriAt;
 ghost use mathlib.Core.Path.{_≡_};
@@ -36,7 +37,7 @@ fn port(s: &[u8]) -> usize
     if octets::ahead(s, b':') < 1 {
         return 0;
     }
-    let number = octets::number(octets::rest(s, 1), 5, 65535);
+    let number = octets::number(past(s, 1), 5, 65535);
     if number.size < 1 {
         return 0;
     }
@@ -55,7 +56,7 @@ fn host_port(table: &[u8; 256], s: &[u8]) -> usize
     if name < 1 {
         return 0;
     }
-    let after = octets::rest(s, name);
+    let after = past(s, name);
     if octets::ahead(after, b':') < 1 {
         return name;
     }
@@ -74,7 +75,7 @@ fn tail(table: &[u8; 256], s: &[u8]) -> usize
     if octets::ahead(s, b';') < 1 {
         return 0;
     }
-    let size = parameters(table, octets::rest(s, 1));
+    let size = parameters(table, past(s, 1));
     size + 1
 }
 
@@ -88,7 +89,7 @@ fn sip_from(table: &[u8; 256], n: usize, user: usize, s: &[u8]) -> UriAt
         return NO_URI;
     }
     let before = n + place;
-    let after = tail(table, octets::rest(s, place));
+    let after = tail(table, past(s, place));
     UriAt {
         size: before + after,
         tel: false,
@@ -103,7 +104,7 @@ fn sip(table: &[u8; 256], s: &[u8]) -> UriAt
     ensures { λ r. ⌜ (r ≡ sip (now (s .entry))) × (r .size ≤ length (now (s .entry)) + 4) × (r .tail ≤ r .size) × (r .user + 4 ≤ r .tail + 4 * (1 - r .size)) ⌝ }
 {
     let user = users(table, s);
-    if octets::ahead(octets::rest(s, user), b'@') < 1 {
+    if octets::ahead(past(s, user), b'@') < 1 {
         return sip_from(table, 4, 0, s);
     }
     if user < 1 {
@@ -113,7 +114,7 @@ fn sip(table: &[u8; 256], s: &[u8]) -> UriAt
         return NO_URI;
     }
     let next = user + 1;
-    sip_from(table, user + 5, user, octets::rest(s, next))
+    sip_from(table, user + 5, user, past(s, next))
 }
 
 // What stands after `tel:`.
@@ -122,7 +123,7 @@ fn tel(table: &[u8; 256], s: &[u8]) -> UriAt
     ensures { λ r. ⌜ (r ≡ tel (now (s .entry))) × (r .size ≤ length (now (s .entry)) + 4) × (r .tail ≤ r .size) × (r .user + 4 ≤ r .tail + 4 * (1 - r .size)) ⌝ }
 {
     let plus = octets::ahead(s, b'+');
-    let count = digits(table, octets::rest(s, plus));
+    let count = digits(table, past(s, plus));
     if count < 1 {
         return NO_URI;
     }
@@ -130,7 +131,7 @@ fn tel(table: &[u8; 256], s: &[u8]) -> UriAt
         return NO_URI;
     }
     let number = plus + count;
-    let after = tail(table, octets::rest(s, number));
+    let after = tail(table, past(s, number));
     let before = 4 + number;
     UriAt {
         size: before + after,
@@ -150,10 +151,10 @@ pub(crate) fn uri(table: &[u8; 256], s: &[u8]) -> UriAt
     }
     let scheme = octets::first(s, 4);
     if octets::same_text(b"sip:", scheme) {
-        return sip(table, octets::rest(s, 4));
+        return sip(table, past(s, 4));
     }
     if octets::same_text(b"tel:", scheme) {
-        return tel(table, octets::rest(s, 4));
+        return tel(table, past(s, 4));
     }
     NO_URI
 }

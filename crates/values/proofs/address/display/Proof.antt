@@ -30,8 +30,8 @@ module _ (s : List ℕ) {q : ℕ} (hq : q ≡ quoted s) where
 quoted-requires : tie.Need-quoted-requires
 quoted-requires c κs = search needs
 
-rest-requires : tie.Need-rest-requires
-rest-requires c κs = search needs
+past-requires : tie.Need-past-requires
+past-requires c κs = search needs
 
 blanks-requires : tie.Need-blanks-requires
 blanks-requires c κs = search needs
@@ -59,7 +59,7 @@ display-spec =
     tie.close
     (tie.spec
     quoted-requires
-    rest-requires
+    past-requires
     blanks-requires
     add-result
     returns

@@ -13,11 +13,11 @@ use borrow.Author.Needs.{needs}
 use Rattle.values.proofs.person.request.Statement.{statement}
 use Rattle.values.proofs.person.request.Tie as tie
 
-module _ (u : List ℕ) {f : UriAt} (hf : f ≡ uri u) {n : ℕ} (hn : n ≡ personSize f) {t w : List ℕ} (ht : t ≡ drop 4 u) (hw : w ≡ take n t) where
+module _ (u : List ℕ) {f : UriAt} (hf : f ≡ uri u) {n : ℕ} (hn : n ≡ personSize f) {w : List ℕ} (hw : w ≡ take n (drop 4 u)) where
   read : {o g c : Bool} → o ≡ otherScheme u → g ≡ (not (eqb (f .size) 0) && eqb (f .size) (length u)) → c ≡ isCalled w
       → record { other = o; good = g; called = c } ≡ requestUri u
   unfolding requestUri isUri person
-  read ho hg hc = rw (ho, hg, hc, hw, hn, ht, hf)
+  read ho hg hc = rw (ho, hg, hc, hw, hn, hf)
 
 uri-requires : tie.Need-uri-requires
 uri-requires c κs = search needs
@@ -25,11 +25,8 @@ uri-requires c κs = search needs
 person-size-requires : tie.Need-person-size-requires
 person-size-requires c κs = search needs
 
-rest-requires : tie.Need-rest-requires
-rest-requires c κs = search needs
-
-first-requires : tie.Need-first-requires
-first-requires c κs = search needs
+part-requires : tie.Need-part-requires
+part-requires c κs = search needs
 
 other-scheme-requires : tie.Need-other-scheme-requires
 other-scheme-requires c κs = search needs
@@ -49,8 +46,7 @@ request-spec =
     (tie.spec
     uri-requires
     person-size-requires
-    rest-requires
-    first-requires
+    part-requires
     other-scheme-requires
     fills-requires
     called-requires

@@ -35,8 +35,8 @@ module _ (s : List ℕ) {u : ℕ} (hu : u ≡ runEscaped isUser 0 s) {t : List �
 users-requires : tie.Need-users-requires
 users-requires c κs = search needs
 
-rest-requires : tie.Need-rest-requires
-rest-requires c κs = search needs
+past-requires : tie.Need-past-requires
+past-requires c κs = search needs
 
 ahead-requires : tie.Need-ahead-requires
 ahead-requires c κs = search needs
@@ -59,8 +59,8 @@ add-next c = search needs
 add-sip-from : tie.Need-add-sip-from
 add-sip-from c = search needs
 
-rest-requires-2 : tie.Need-rest-requires-2
-rest-requires-2 c κs = search needs
+past-requires-2 : tie.Need-past-requires-2
+past-requires-2 c κs = search needs
 
 sip-from-requires-2 : tie.Need-sip-from-requires-2
 sip-from-requires-2 c κs = search needs
@@ -73,7 +73,7 @@ sip-spec =
     tie.close
     (tie.spec
     users-requires
-    rest-requires
+    past-requires
     ahead-requires
     sip-from-requires
     returns
@@ -81,6 +81,6 @@ sip-spec =
     returns-3
     add-next
     add-sip-from
-    rest-requires-2
+    past-requires-2
     sip-from-requires-2
     returns-4)
