@@ -38,9 +38,13 @@ fn display(table: &[u8; 256], s: &[u8]) -> usize
     requires { ⌜ now table ≡ classTable ⌝ }
     ensures { λ r. ⌜ (r ≡ display (now (s .entry))) × (r ≤ length (now (s .entry))) ⌝ }
 {
+    // Most addresses have none.
+    if 0 < octets::ahead(s, b'<') {
+        return 0;
+    }
     let quote = octets::quoted(s);
     if 0 < quote {
-        return quote + blanks(table, past(s, quote));
+        return quote + blanks(past(s, quote));
     }
     if tokens(table, s) < 1 {
         return 0;

@@ -7,8 +7,7 @@ ghost use Rattle.octets.specs.Classes.{classTable};
 ghost use Rattle.sip.specs.Values.{isCSeq, isCallId};
 
 // A number, blanks, and the method of the start line.
-pub(crate) fn cseq(table: &[u8; 256], method: &[u8], v: &[u8]) -> bool
-    requires { ⌜ now table ≡ classTable ⌝ }
+pub(crate) fn cseq(method: &[u8], v: &[u8]) -> bool
     ensures { λ r. ⌜ r ≡ isCSeq (now (method .entry)) (now (v .entry)) ⌝ }
 {
     let number = octets::number(v, 10, 2147483647);
@@ -16,7 +15,7 @@ pub(crate) fn cseq(table: &[u8; 256], method: &[u8], v: &[u8]) -> bool
     if size < 1 {
         return false;
     }
-    let gap = blanks(table, past(v, size));
+    let gap = blanks(past(v, size));
     if gap < 1 {
         return false;
     }

@@ -77,7 +77,7 @@ pub(crate) fn list(table: &[u8; 256], sep: u8, id: bool, v: &[u8]) -> ListAt
                 first,
             };
         }
-        let gap = sign(table, sep, after);
+        let gap = sign(sep, after);
         if gap < 1 {
             return NO_LIST;
         }

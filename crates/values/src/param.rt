@@ -40,7 +40,7 @@ fn param_rest(table: &[u8; 256], named: usize, is_tag: bool, s: &[u8]) -> ParamA
     requires { ⌜ (now table ≡ classTable) × (named + length (now s) < 9223372036854775808) ⌝ }
     ensures { λ r. ⌜ (r ≡ paramRest named «is_tag» (now (s .entry))) × (r .size ≤ named + length (now (s .entry))) × (r .value + r .len ≤ r .size) ⌝ }
 {
-    let equal = sign(table, b'=', s);
+    let equal = sign(b'=', s);
     if equal < 1 {
         if is_tag {
             return NO_PARAM;
@@ -71,7 +71,7 @@ fn param(table: &[u8; 256], s: &[u8]) -> ParamAt
     requires { ⌜ now table ≡ classTable ⌝ }
     ensures { λ r. ⌜ (r ≡ param (now (s .entry))) × (r .size ≤ length (now (s .entry))) × (r .value + r .len ≤ r .size) ⌝ }
 {
-    let semicolon = sign(table, b';', s);
+    let semicolon = sign(b';', s);
     if semicolon < 1 {
         return NO_PARAM;
     }

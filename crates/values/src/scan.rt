@@ -18,13 +18,6 @@ pub(crate) fn tokens(table: &[u8; 256], s: &[u8]) -> usize
     octets::run(table, s, octets::TOKEN)
 }
 
-pub(crate) fn blanks(table: &[u8; 256], s: &[u8]) -> usize
-    requires { ⌜ now table ≡ classTable ⌝ }
-    ensures { λ r. ⌜ (r ≡ run isBlank (now (s .entry))) × (r ≤ length (now (s .entry))) ⌝ }
-{
-    octets::run(table, s, octets::BLANK)
-}
-
 pub(crate) fn digits(table: &[u8; 256], s: &[u8]) -> usize
     requires { ⌜ now table ≡ classTable ⌝ }
     ensures { λ r. ⌜ (r ≡ run isDigit (now (s .entry))) × (r ≤ length (now (s .entry))) ⌝ }
@@ -78,17 +71,39 @@ pub(crate) fn past(s: &[u8], n: usize) -> &[u8]
     &s[n..]
 }
 
+fn is_blank(b: u8) -> bool
+    ensures { λ r. ⌜ r ≡ isBlank b ⌝ }
+{
+    if b == b' ' {
+        return true;
+    }
+    b == b'\t'
+}
+
+// By comparison, since one blank or none is what mostly stands there.
+pub(crate) fn blanks(s: &[u8]) -> usize
+    ensures { λ r. ⌜ (r ≡ run isBlank (now (s .entry))) × (r ≤ length (now (s .entry))) ⌝ }
+{
+    let mut size = 0;
+    while size < s.len() {
+        if !is_blank(s[size]) {
+            return size;
+        }
+        size += 1;
+    }
+    size
+}
+
 // The byte b with any blanks around it. 0 where it does not stand there.
-pub(crate) fn sign(table: &[u8; 256], b: u8, s: &[u8]) -> usize
-    requires { ⌜ now table ≡ classTable ⌝ }
+pub(crate) fn sign(b: u8, s: &[u8]) -> usize
     ensures { λ r. ⌜ (r ≡ sign b (now (s .entry))) × (r ≤ length (now (s .entry))) ⌝ }
 {
-    let before = blanks(table, s);
+    let before = blanks(s);
     if octets::ahead(past(s, before), b) < 1 {
         return 0;
     }
     let next = before + 1;
-    let after = blanks(table, past(s, next));
+    let after = blanks(past(s, next));
     next + after
 }
 
