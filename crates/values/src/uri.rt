@@ -10,6 +10,7 @@ ghost use Prim.Native.Nat.{_+_, _-_, _*_, _≤_};
 ghost use lib.ListN.{length};
 ghost use Rattle.octets.specs.Classes.{classTable};
 ghost use Rattle.sip.specs.Values.{host, port, hostPort, tail, sipFrom, sip, tel, uri};
+ghost use Rattle.values.specs.Answers.{userinfo};
 
 pub(crate) const NO_URI: UriAt = UriAt {
     size: 0,
@@ -98,23 +99,41 @@ fn sip_from(table: &[u8; 256], n: usize, user: usize, s: &[u8]) -> UriAt
     }
 }
 
-// What stands after `sip:`.
+// A user and its `@`. 0 where there is none.
+fn userinfo(table: &[u8; 256], s: &[u8]) -> usize
+    requires { ⌜ now table ≡ classTable ⌝ }
+    ensures { λ r. ⌜ (r ≡ userinfo (now (s .entry))) × (r ≤ length (now (s .entry))) ⌝ }
+{
+    let user = users(table, s);
+    if octets::ahead(past(s, user), b'@') < 1 {
+        return 0;
+    }
+    user + 1
+}
+
+// The user without its `@`.
+fn user_size(info: usize) -> usize
+    ensures { λ r. ⌜ r ≡ info - 1 ⌝ }
+{
+    if info < 1 {
+        return 0;
+    }
+    info - 1
+}
+
+// What stands after `sip:`. The user has 1 to 64 bytes.
 fn sip(table: &[u8; 256], s: &[u8]) -> UriAt
     requires { ⌜ now table ≡ classTable ⌝ }
     ensures { λ r. ⌜ (r ≡ sip (now (s .entry))) × (r .size ≤ length (now (s .entry)) + 4) × (r .tail ≤ r .size) × (r .user + 4 ≤ r .tail + 4 * (1 - r .size)) ⌝ }
 {
-    let user = users(table, s);
-    if octets::ahead(past(s, user), b'@') < 1 {
-        return sip_from(table, 4, 0, s);
-    }
-    if user < 1 {
+    let info = userinfo(table, s);
+    if info == 1 {
         return NO_URI;
     }
-    if 64 < user {
+    if 65 < info {
         return NO_URI;
     }
-    let next = user + 1;
-    sip_from(table, user + 5, user, past(s, next))
+    sip_from(table, info + 4, user_size(info), past(s, info))
 }
 
 // What stands after `tel:`.
