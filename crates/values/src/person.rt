@@ -7,8 +7,6 @@ use super::scan::until;
 use super::uri::uri;
 use sip::UriAt;
 ghost use mathlib.Core.Path.{_≡_};
-ghost use mathlib.Core.Bool.{not, _&&_};
-ghost use lib.Dec.{eqb};
 ghost use Rattle.octets.specs.Classes.{classTable};
 ghost use Rattle.sip.specs.Values.{isGlobal, personSize, isShort, isCalled};
 ghost use Rattle.sip.specs.Refusals.{otherScheme};
@@ -68,6 +66,10 @@ fn called(table: &[u8; 256], s: &[u8]) -> bool
     requires { ⌜ now table ≡ classTable ⌝ }
     ensures { λ r. ⌜ r ≡ isCalled (now (s .entry)) ⌝ }
 {
+    // Most often it is a global number alone, in which no `;` stands.
+    if global(table, s) {
+        return true;
+    }
     let number = octets::first(s, until(s, b';'));
     if global(table, number) {
         return true;
@@ -97,28 +99,26 @@ fn other_scheme(table: &[u8; 256], u: &[u8]) -> bool
     !octets::same_text(b"tel", scheme)
 }
 
-// What was read is there, and is all.
-fn fills(size: usize, whole: usize) -> bool
-    ensures { λ r. ⌜ r ≡ (not (eqb size 0) && eqb size whole) ⌝ }
-{
-    if size < 1 {
-        return false;
-    }
-    size == whole
-}
-
+// A URI's scheme is sip or tel, so that only what is no URI can have another.
 pub(crate) fn request(table: &[u8; 256], u: &[u8]) -> RequestUri
     requires { ⌜ now table ≡ classTable ⌝ }
     ensures { λ r. ⌜ r ≡ requestUri (now (u .entry)) ⌝ }
 {
     let found = uri(table, u);
+    if found.size < 1 {
+        let other = other_scheme(table, u);
+        return RequestUri {
+            other,
+            good: false,
+            called: false,
+        };
+    }
     let size = person_size(found);
     let person = octets::part(u, 4, size);
-    let other = other_scheme(table, u);
-    let good = fills(found.size, u.len());
+    let good = found.size == u.len();
     let called = called(table, person);
     RequestUri {
-        other,
+        other: false,
         good,
         called,
     }
