@@ -9,7 +9,7 @@ use lib.Dec.{eqb, leb, ltb}
 use lib.ListN.{getD, List·getD-eq-default}
 use borrow.Author.Tests.{eq-eqb, ne-eqb, lt-leb, ltb-true, ltb-false}
 use lib.Bits.{bitAnd, and-step, and-zero-r}
-use Rattle.octets.specs.Classes.{bit, classes, maskOf, classOf, classTable, inTable, isToken, isBlank, isDigit, isHex, isUser, isParameter, isHost, isValue, isVisible, isGap}
+use Rattle.octets.specs.Classes.{bit, classes, maskOf, classOf, classTable, inTable, isToken, isBlank, isDigit, isVisible, isUser, isParameter, isHost, isValue}
 
 -- ---- bits
 
@@ -99,7 +99,7 @@ module _ (b : ℕ) (h : 256 ≤ b) where
   eqb-past x t = ne-eqb b x (λ z. omega (arith, ltb-true x 256 t))
 
   class-past : classOf b ≡ 0
-  unfolding classOf isToken isBlank isDigit isHex isUser isParameter isHost isValue isVisible isGap
+  unfolding classOf isToken isBlank isDigit isVisible isUser isParameter isHost isValue
   class-past = simp (leb-past, eqb-past, and-false)
 
 -- at every number, past the bytes too
@@ -129,9 +129,9 @@ pub digit-class : inTable classTable 4 ≡ isDigit
 unfolding classes
 digit-class = class 2
 
-pub hex-class : inTable classTable 8 ≡ isHex
+pub visible-class : inTable classTable 8 ≡ isVisible
 unfolding classes
-hex-class = class 3
+visible-class = class 3
 
 pub user-class : inTable classTable 16 ≡ isUser
 unfolding classes
@@ -148,14 +148,6 @@ host-class = class 6
 pub value-class : inTable classTable 128 ≡ isValue
 unfolding classes
 value-class = class 7
-
-pub visible-class : inTable classTable 256 ≡ isVisible
-unfolding classes
-visible-class = class 8
-
-pub gap-class : inTable classTable 512 ≡ isGap
-unfolding classes
-gap-class = class 9
 
 two : (b : ℕ) → hit (maskOf classes b) 3 ≡ (isToken b || isBlank b)
 unfolding maskOf classes

@@ -7,8 +7,9 @@ use native.Mathlib.Omega.{arith}
 use lib.Dec.{eqb}
 use lib.ListN.{length, drop, getD, drop-of-length-le, length-drop}
 use Rattle.octets.specs.Classes.{isHex}
-use Rattle.octets.specs.Scans.{escape, runEscaped}
+use Rattle.octets.specs.Scans.{run, escape, runEscaped}
 use Rattle.octets.proofs.Places.{drop1, drop3}
+use Rattle.octets.proofs.Runs.{by-first, run-nil, run-yes, run-no}
 
 few : (s : List ℕ) → length s < 3 → escape s ≡ false
 unfolding escape
@@ -37,6 +38,13 @@ module _ (p : ℕ → Bool) where
       go true u x y = omega arith
       go false true x y = omega arith
       go false false x y = omega arith
+
+  -- it begins with the run of the class
+  pub runEscaped-run : (s : List ℕ) → runEscaped p 0 s ≡ run p s + runEscaped p 0 (drop (run p s) s)
+  unfolding runEscaped
+  runEscaped-run =
+      by-first p (λ s. runEscaped p 0 s ≡ run p s + runEscaped p 0 (drop (run p s) s)) (rw (run-nil p))
+      (λ b s h e. rw (run-yes p b s e, e) (omega (arith, h))) (λ b s e. rw (run-no p b s e) (omega arith))
 
   module _ (s : List ℕ) (i : ℕ) where
     pub runEscaped-end : length s ≤ i → runEscaped p 0 (drop i s) ≡ 0

@@ -23,7 +23,7 @@ module _ (p : ℕ → Bool) where
   run-no b s e = rw e
 
   -- by the first byte, what holds of every text
-  by-first : (P : List ℕ → Type 0) → P []
+  pub by-first : (P : List ℕ → Type 0) → P []
       → ((b : ℕ) (s : List ℕ) → P s → p b ≡ true → P (b ∷ s)) → ((b : ℕ) (s : List ℕ) → p b ≡ false → P (b ∷ s))
       → (s : List ℕ) → P s
   by-first P n y o [] = n

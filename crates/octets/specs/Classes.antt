@@ -99,7 +99,7 @@ isVisible b = within 33 126 b
 
 -- the classes of the table, in the order of their bits: 1, 2, 4, 8, ...
 unfoldable pub classes : List (ℕ → Bool)
-classes = isToken ∷ isBlank ∷ isDigit ∷ isHex ∷ isUser ∷ isParameter ∷ isHost ∷ isValue ∷ isVisible ∷ isGap ∷ []
+classes = isToken ∷ isBlank ∷ isDigit ∷ isVisible ∷ isUser ∷ isParameter ∷ isHost ∷ isValue ∷ []
 
 abbrev pub bit : Bool → ℕ
 bit true = 1

@@ -18,35 +18,31 @@ pub struct NumberAt {
 const NO_NUMBER: NumberAt = NumberAt { size: 0, value: 0 };
 
 // The classes of the table, by their bits.
-pub const TOKEN: u16 = 1;
+pub const TOKEN: u8 = 1;
 
-pub const BLANK: u16 = 2;
+pub const BLANK: u8 = 2;
 
-pub const DIGIT: u16 = 4;
+pub const DIGIT: u8 = 4;
 
-pub const HEX: u16 = 8;
+pub const VISIBLE: u8 = 8;
 
-pub const USER: u16 = 16;
+pub const USER: u8 = 16;
 
-pub const PARAMETER: u16 = 32;
+pub const PARAMETER: u8 = 32;
 
-pub const HOST: u16 = 64;
+pub const HOST: u8 = 64;
 
-pub const VALUE: u16 = 128;
-
-pub const VISIBLE: u16 = 256;
-
-pub const GAP: u16 = 512;
+pub const VALUE: u8 = 128;
 
 // The table of class masks. A caller makes it once and lends it down: indexing the constant in a loop would copy it for each byte.
-pub fn class_table() -> [u16; 256]
+pub fn class_table() -> [u8; 256]
     ensures { λ r. ⌜ r ≡ classTable ⌝ }
 {
     table::CLASSES
 }
 
 // The byte is in a class of the mask, by the table that is lent.
-fn in_class(table: &[u16; 256], b: u8, mask: u16) -> bool
+fn in_class(table: &[u8; 256], b: u8, mask: u8) -> bool
     ensures { λ r. ⌜ r ≡ inTable (now (table .entry)) mask b ⌝ }
 {
     let i = b as usize;
@@ -54,7 +50,7 @@ fn in_class(table: &[u16; 256], b: u8, mask: u16) -> bool
 }
 
 // How many of the four bytes from a place on are in a class of the mask, before the first that is not.
-fn four(table: &[u16; 256], s: &[u8], at: usize, mask: u16) -> usize
+fn four(table: &[u8; 256], s: &[u8], at: usize, mask: u8) -> usize
     requires { ⌜ at + 4 ≤ length (now s) ⌝ }
     ensures { λ r. ⌜ (run (inTable (now (table .entry)) mask) (drop at (now (s .entry))) ≡ r + cond (ltb r 4) 0 (run (inTable (now (table .entry)) mask) (drop (at + 4) (now (s .entry))))) × (r ≤ 4) ⌝ }
 {
@@ -77,7 +73,7 @@ fn four(table: &[u16; 256], s: &[u8], at: usize, mask: u16) -> usize
 }
 
 // Where the run ends that goes on at a place, byte by byte.
-fn run_from(table: &[u16; 256], s: &[u8], at: usize, mask: u16) -> usize
+fn run_from(table: &[u8; 256], s: &[u8], at: usize, mask: u8) -> usize
     requires { ⌜ at ≤ length (now s) ⌝ }
     ensures { λ r. ⌜ (r ≡ at + run (inTable (now (table .entry)) mask) (drop at (now (s .entry)))) × (r ≤ length (now (s .entry))) ⌝ }
 {
@@ -92,7 +88,7 @@ fn run_from(table: &[u16; 256], s: &[u8], at: usize, mask: u16) -> usize
 }
 
 // How many of the leading bytes are in a class of the mask, by the table that is lent. Four bytes a turn: one test of the place for four bytes.
-pub fn run(table: &[u16; 256], s: &[u8], mask: u16) -> usize
+pub fn run(table: &[u8; 256], s: &[u8], mask: u8) -> usize
     ensures { λ r. ⌜ (r ≡ run (inTable (now (table .entry)) mask) (now (s .entry))) × (r ≤ length (now (s .entry))) ⌝ }
 {
     if s.len() < 4 {
@@ -128,6 +124,19 @@ pub fn first(s: &[u8], n: usize) -> &[u8]
         return s;
     }
     &s[..n]
+}
+
+// The `len` bytes from `start` on, or as many as there are. Most parts lie within the text, and are one slice.
+pub fn part(s: &[u8], start: usize, len: usize) -> &[u8]
+    ensures { λ r. ⌜ (now r ≡ take len (drop start (now (s .entry)))) × (length (now r) ≡ min len (length (now (s .entry)) - start)) ⌝ }
+{
+    if start <= s.len() {
+        if len <= s.len() - start {
+            let end = start + len;
+            return &s[start..end];
+        }
+    }
+    first(rest(s, start), len)
 }
 
 // 1 where the first byte is b, else 0: how many bytes to pass over.
@@ -282,11 +291,11 @@ fn escape_at(s: &[u8], i: usize) -> bool
     is_hex(s[low])
 }
 
-// How many of the leading bytes are in a class of the mask, by the table that is lent, or in an escape.
-pub fn run_escaped(table: &[u16; 256], s: &[u8], mask: u16) -> usize
+// How many of the leading bytes are in a class of the mask, by the table that is lent, or in an escape. Most texts have no escape, and are one run.
+pub fn run_escaped(table: &[u8; 256], s: &[u8], mask: u8) -> usize
     ensures { λ r. ⌜ (r ≡ runEscaped (inTable (now (table .entry)) mask) 0 (now (s .entry))) × (r ≤ length (now (s .entry))) ⌝ }
 {
-    let mut i = 0;
+    let mut i = run(table, s, mask);
     while i < s.len() {
         let b = s[i] as usize;
         if table[b] & mask != 0 {

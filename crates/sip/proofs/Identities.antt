@@ -28,15 +28,20 @@ unfolding any
 digits-no-gap [] e = refl
 digits-no-gap (b ∷ s) e = rw (digit-no-gap b (all-first isDigit b s e)) (digits-no-gap s (all-others isDigit b s e))
 
-global-no-gap : (s : List ℕ) → isGlobal s ≡ true → any isGap s ≡ false
-unfolding isGlobal any isGap isBlank isBreak
-global-no-gap s e =
+-- a plus, and digits alone after it
+pub global-digits : (s : List ℕ) → isGlobal s ≡ true → (starts 43 s ≡ true) × (all isDigit (drop 1 s) ≡ true)
+unfolding isGlobal
+global-digits s e =
     let n : ℕ = run isDigit (drop 1 s) in
     let a : (not (starts 48 (drop 1 s)) && (within 7 15 n && eqb (n + 1) (length s))) ≡ true = and-right (starts 43 s) _ e in
     let b : (within 7 15 n && eqb (n + 1) (length s)) ≡ true = and-right (not (starts 48 (drop 1 s))) _ a in
     let l : n + 1 ≡ length s = eqb-true (n + 1) (length s) (and-right (within 7 15 n) _ b) in
     let w : n ≡ length (drop 1 s) = omega (arith, length-drop 1 s) in
-    ap (any isGap) (byte-start 43 s (and-left (starts 43 s) _ e)) ∙ digits-no-gap (drop 1 s) (whole-all isDigit (drop 1 s) w)
+    (and-left (starts 43 s) _ e, whole-all isDigit (drop 1 s) w)
+
+global-no-gap : (s : List ℕ) → isGlobal s ≡ true → any isGap s ≡ false
+unfolding any isGap isBlank isBreak
+global-no-gap s e = ap (any isGap) (byte-start 43 s (global-digits s e .0)) ∙ digits-no-gap (drop 1 s) (global-digits s e .1)
 
 -- ---- an identity
 

@@ -4,6 +4,7 @@ use mathlib.Core.Bool.{Bool, true, false, false≢true, cond, _&&_}
 use mathlib.Core.List.{List, [], _∷_, _++_, append-assoc}
 use mathlib.Core.Option.{none, some}
 use Prim.Native.Nat.{ℕ, _+_}
+use native.Mathlib.Omega.{arith}
 use lib.ListN.{length, take, drop, take-append-drop}
 use lib.Seq.{length-take-le, take-append-seam, drop-append-seam, take-at, drop-at, drop-drop}
 use Rattle.octets.specs.Classes.{text, within, isToken, isVisible}
@@ -14,7 +15,7 @@ use Rattle.octets.proofs.Runs.{run-no, run-exact, run-all, run-le}
 use Rattle.octets.proofs.Texts.{sameText-length}
 use Rattle.sip.proofs.Tests.{range-low, range-high, in-range, byte-start}
 use Rattle.sip.proofs.ValueSizes.{not-none}
-use Rattle.sip.proofs.Texts.{same-parts, lower-space}
+use Rattle.sip.proofs.Texts.{same-parts, lower-sign}
 
 -- ---- from the start line to what is read
 
@@ -26,7 +27,7 @@ version-size v e = sym (sameText-length (text " SIP/2.0\r\n") v e)
 version-space : (v t : List ℕ) → isVersion v ≡ true → run isVisible (v ++ t) ≡ 0
 unfolding isVersion text sameText isVisible
 version-space [] t e = absurd (false≢true e)
-version-space (b ∷ v) t e = run-no isVisible b (v ++ t) (rw (lower-space b (same-parts 32 b (text "SIP/2.0\r\n") v e .0)))
+version-space (b ∷ v) t e = run-no isVisible b (v ++ t) (rw (lower-sign 32 b (omega arith) (same-parts 32 b (text "SIP/2.0\r\n") v e .0)))
 
 module _ (l : Start) (version t : List ℕ) where
   pub whole : startBytes l version ++ t ≡ l .method ++ 32 ∷ (l .uri ++ (version ++ t))

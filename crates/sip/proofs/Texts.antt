@@ -2,7 +2,7 @@
 use mathlib.Core.Path.{_≡_, refl, sym, ap, _∙_}
 use mathlib.Core.Bool.{Bool, true, false, false≢true, cond, or-true}
 use mathlib.Core.List.{List, [], _∷_}
-use Prim.Native.Nat.{ℕ, _+_, _≤_}
+use Prim.Native.Nat.{ℕ, _+_, _≤_, _<_}
 use native.Mathlib.Omega.{arith}
 use lib.Dec.{eqb}
 use borrow.Author.Tests.{eqb-true, le-leb}
@@ -19,12 +19,12 @@ same-parts x y xs ys e = go (eqb (lower x) (lower y)) refl e
     go true p q = (eqb-true (lower x) (lower y) p, q)
     go false p q = absurd (false≢true q)
 
--- only a space is written as one
-pub lower-space : (b : ℕ) → 32 ≡ lower b → b ≡ 32
+-- a sign, as a space or a colon, is no letter's small form
+pub lower-sign : (c b : ℕ) → c < 97 → c ≡ lower b → b ≡ c
 unfolding lower
-lower-space b e = go (within 65 90 b) refl e
+lower-sign c b h e = go (within 65 90 b) refl e
   where
-    go : (t : Bool) → within 65 90 b ≡ t → 32 ≡ cond t (b + 32) b → b ≡ 32
+    go : (t : Bool) → within 65 90 b ≡ t → c ≡ cond t (b + 32) b → b ≡ c
     go true p q = let l : 65 ≤ b = range-low 65 90 b p in absurd (omega arith)
     go false p q = sym q
 

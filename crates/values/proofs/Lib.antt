@@ -3,3 +3,4 @@ pub mod Within
 pub mod Lists
 pub mod Params
 pub mod Addresses
+pub mod Schemes

@@ -2,9 +2,9 @@
 use mathlib.Core.Bool.{Bool, cond}
 use mathlib.Core.List.{List, [], _∷_}
 use Prim.Native.Nat.{ℕ, suc, _+_}
-use lib.ListN.{length}
-use Rattle.octets.specs.Classes.{text}
-use Rattle.octets.specs.Scans.{decimal, noNumber, sameText}
+use lib.ListN.{length, drop}
+use Rattle.octets.specs.Classes.{text, isUser}
+use Rattle.octets.specs.Scans.{starts, runEscaped, decimal, noNumber, sameText}
 use Rattle.octets.specs.declared.NumberAt.{NumberAt}
 use Rattle.sip.specs.declared.Span.{Span}
 use Rattle.sip.specs.Values.{isNumber, uri, address, person, personSize, isCalled, isIdentity, tokens, listOr, isList, isLacking}
@@ -16,6 +16,10 @@ use Rattle.values.specs.declared.ListAt.{ListAt}
 -- a value that is a number of 1 to `most` digits, at most `bound`; size 0 where it is none
 unfoldable pub wholeNumber : ℕ → ℕ → List ℕ → NumberAt
 wholeNumber most bound v = cond (isNumber most bound v) (record { size = length v; value = decimal 0 v }) noNumber
+
+-- the user of a sip URI and its `@`; 0 where there is none
+unfoldable pub userinfo : List ℕ → ℕ
+userinfo s = let u = runEscaped isUser 0 s in cond (starts 64 (drop u s)) (u + 1) 0
 
 unfoldable pub requestUri : List ℕ → RequestUri
 requestUri u = record { other = otherScheme u; good = isUri u; called = isCalled (person (uri u) u) }

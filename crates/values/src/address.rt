@@ -4,6 +4,7 @@ use super::person::global;
 use super::person::person_size;
 use super::scan::blanks;
 use super::scan::names;
+use super::scan::past;
 use super::scan::tokens;
 use super::uri::NO_URI;
 use super::uri::uri;
@@ -33,13 +34,17 @@ const NO_PARTY: PartyAt = PartyAt {
 const NO_SPAN: Span = Span { start: 0, len: 0 };
 
 // A display name with the blanks after it. 0 where there is none.
-fn display(table: &[u16; 256], s: &[u8]) -> usize
+fn display(table: &[u8; 256], s: &[u8]) -> usize
     requires { ⌜ now table ≡ classTable ⌝ }
     ensures { λ r. ⌜ (r ≡ display (now (s .entry))) × (r ≤ length (now (s .entry))) ⌝ }
 {
+    // Most addresses have none.
+    if 0 < octets::ahead(s, b'<') {
+        return 0;
+    }
     let quote = octets::quoted(s);
     if 0 < quote {
-        return quote + blanks(table, octets::rest(s, quote));
+        return quote + blanks(past(s, quote));
     }
     if tokens(table, s) < 1 {
         return 0;
@@ -48,7 +53,7 @@ fn display(table: &[u16; 256], s: &[u8]) -> usize
 }
 
 // A URI and `>`, after the display name and `<`. Both are parts of one slice, so that no sum wraps.
-fn bracketed(table: &[u16; 256], name: usize, s: &[u8]) -> AddressAt
+fn bracketed(table: &[u8; 256], name: usize, s: &[u8]) -> AddressAt
     requires { ⌜ (now table ≡ classTable) × (name + length (now s) < 9223372036854775808) ⌝ }
     ensures { λ r. ⌜ (r ≡ bracketed name (now (s .entry))) × (r .size ≤ name + length (now (s .entry)) + 1) × (r .at + r .uri .size ≤ r .size) × (r .uri .user + 4 ≤ r .uri .size + 4 * (1 - r .size)) ⌝ }
 {
@@ -57,7 +62,7 @@ fn bracketed(table: &[u16; 256], name: usize, s: &[u8]) -> AddressAt
     if inner < 1 {
         return NO_ADDRESS;
     }
-    if octets::ahead(octets::rest(s, inner), b'>') < 1 {
+    if octets::ahead(past(s, inner), b'>') < 1 {
         return NO_ADDRESS;
     }
     let at = name + 1;
@@ -66,14 +71,14 @@ fn bracketed(table: &[u16; 256], name: usize, s: &[u8]) -> AddressAt
 }
 
 // Either form of address. The last bound says that the user, or a tel URI's number, stands in the URI behind four bytes.
-pub(crate) fn address(table: &[u16; 256], s: &[u8]) -> AddressAt
+pub(crate) fn address(table: &[u8; 256], s: &[u8]) -> AddressAt
     requires { ⌜ now table ≡ classTable ⌝ }
     ensures { λ r. ⌜ (r ≡ address (now (s .entry))) × (r .size ≤ length (now (s .entry))) × (r .at + r .uri .size ≤ r .size) × (r .uri .user + 4 ≤ r .uri .size + 4 * (1 - r .size)) ⌝ }
 {
     let name = display(table, s);
-    if 0 < octets::ahead(octets::rest(s, name), b'<') {
+    if 0 < octets::ahead(past(s, name), b'<') {
         let next = name + 1;
-        return bracketed(table, name, octets::rest(s, next));
+        return bracketed(table, name, past(s, next));
     }
     let u = uri(table, s);
     if u.size < 1 {
@@ -94,7 +99,7 @@ pub(crate) fn address(table: &[u16; 256], s: &[u8]) -> AddressAt
 }
 
 // From or To: nothing may stand after the address and the parameters.
-pub(crate) fn party(table: &[u16; 256], v: &[u8]) -> PartyAt
+pub(crate) fn party(table: &[u8; 256], v: &[u8]) -> PartyAt
     requires { ⌜ now table ≡ classTable ⌝ }
     ensures { λ r. ⌜ (r ≡ party (now (v .entry))) × (r .tag + r .len ≤ length (now (v .entry))) ⌝ }
 {
@@ -102,7 +107,7 @@ pub(crate) fn party(table: &[u16; 256], v: &[u8]) -> PartyAt
     if a.size < 1 {
         return NO_PARTY;
     }
-    let p = params(table, octets::rest(v, a.size));
+    let p = params(table, past(v, a.size));
     let end = a.size + p.size;
     if end != v.len() {
         return NO_PARTY;
@@ -116,7 +121,7 @@ pub(crate) fn party(table: &[u16; 256], v: &[u8]) -> PartyAt
 }
 
 // P-Asserted-Identity: nothing may stand after the address, and the number stands behind the four bytes of the scheme.
-pub(crate) fn identity(table: &[u16; 256], v: &[u8]) -> Span
+pub(crate) fn identity(table: &[u8; 256], v: &[u8]) -> Span
     requires { ⌜ now table ≡ classTable ⌝ }
     ensures { λ r. ⌜ (r ≡ identityAt (now (v .entry))) × (r .start + r .len ≤ length (now (v .entry))) ⌝ }
 {
@@ -127,7 +132,7 @@ pub(crate) fn identity(table: &[u16; 256], v: &[u8]) -> Span
     let start = a.at + 4;
     let u = a.uri;
     let len = person_size(u);
-    if !global(table, octets::first(octets::rest(v, start), len)) {
+    if !global(table, octets::part(v, start, len)) {
         return NO_SPAN;
     }
     if a.size == v.len() {

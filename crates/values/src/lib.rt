@@ -43,8 +43,7 @@ pub fn whole_number(v: &[u8], most: usize, bound: u32) -> octets::NumberAt
 pub fn is_cseq(method: &[u8], v: &[u8]) -> bool
     ensures { λ r. ⌜ r ≡ isCSeq (now (method .entry)) (now (v .entry)) ⌝ }
 {
-    let table = octets::class_table();
-    call::cseq(&table, method, v)
+    call::cseq(method, v)
 }
 
 pub fn is_call_id(v: &[u8]) -> bool

@@ -1,5 +1,6 @@
 // Lists of tokens: Privacy and Require.
 use super::ListAt;
+use super::scan::past;
 use super::scan::sign;
 use super::scan::tokens;
 ghost use mathlib.Core.Path.{_≡_};
@@ -53,7 +54,7 @@ fn place(id: bool, earlier: usize, before: usize, t: &[u8]) -> usize
 }
 
 // One loop for both lists: `sep` parts the tokens, `id` says which are looked for.
-pub(crate) fn list(table: &[u16; 256], sep: u8, id: bool, v: &[u8]) -> ListAt
+pub(crate) fn list(table: &[u8; 256], sep: u8, id: bool, v: &[u8]) -> ListAt
     requires { ⌜ now table ≡ classTable ⌝ }
     ensures { λ r. ⌜ r ≡ listAt sep (λ (t : List ℕ). cond id (sameText (text "id") t) (isLacking t)) (now (v .entry)) ⌝ }
 {
@@ -61,14 +62,14 @@ pub(crate) fn list(table: &[u16; 256], sep: u8, id: bool, v: &[u8]) -> ListAt
     let mut count = 0;
     let mut first = 0;
     while at < v.len() {
-        let left = octets::rest(v, at);
+        let left = past(v, at);
         let size = tokens(table, left);
         if size < 1 {
             return NO_LIST;
         }
         first = place(id, first, count, octets::first(left, size));
         count += 1;
-        let after = octets::rest(left, size);
+        let after = past(left, size);
         if after.len() < 1 {
             return ListAt {
                 good: true,
@@ -76,7 +77,7 @@ pub(crate) fn list(table: &[u16; 256], sep: u8, id: bool, v: &[u8]) -> ListAt
                 first,
             };
         }
-        let gap = sign(table, sep, after);
+        let gap = sign(sep, after);
         if gap < 1 {
             return NO_LIST;
         }

@@ -1,4 +1,5 @@
 // The parameters of From and To, after the address.
+use super::scan::past;
 use super::scan::sign;
 use super::scan::tokens;
 use sip::ParamAt;
@@ -17,7 +18,7 @@ const NO_PARAM: ParamAt = ParamAt {
 };
 
 // A parameter's value: a token or a quoted string; that of a tag is a token of 1 to 64 bytes.
-fn param_value(table: &[u16; 256], is_tag: bool, s: &[u8]) -> usize
+fn param_value(table: &[u8; 256], is_tag: bool, s: &[u8]) -> usize
     requires { ⌜ now table ≡ classTable ⌝ }
     ensures { λ r. ⌜ (r ≡ paramValue «is_tag» (now (s .entry))) × (r ≤ length (now (s .entry))) ⌝ }
 {
@@ -35,11 +36,11 @@ fn param_value(table: &[u16; 256], is_tag: bool, s: &[u8]) -> usize
 }
 
 // What stands after the first `named` bytes of a parameter, up to its name. Both are parts of one slice, so that no sum wraps.
-fn param_rest(table: &[u16; 256], named: usize, is_tag: bool, s: &[u8]) -> ParamAt
+fn param_rest(table: &[u8; 256], named: usize, is_tag: bool, s: &[u8]) -> ParamAt
     requires { ⌜ (now table ≡ classTable) × (named + length (now s) < 9223372036854775808) ⌝ }
     ensures { λ r. ⌜ (r ≡ paramRest named «is_tag» (now (s .entry))) × (r .size ≤ named + length (now (s .entry))) × (r .value + r .len ≤ r .size) ⌝ }
 {
-    let equal = sign(table, b'=', s);
+    let equal = sign(b'=', s);
     if equal < 1 {
         if is_tag {
             return NO_PARAM;
@@ -51,7 +52,7 @@ fn param_rest(table: &[u16; 256], named: usize, is_tag: bool, s: &[u8]) -> Param
             len: 0,
         };
     }
-    let len = param_value(table, is_tag, octets::rest(s, equal));
+    let len = param_value(table, is_tag, past(s, equal));
     if len < 1 {
         return NO_PARAM;
     }
@@ -66,22 +67,22 @@ fn param_rest(table: &[u16; 256], named: usize, is_tag: bool, s: &[u8]) -> Param
 }
 
 // The parameter at the front of a text. It is the tag by its whole name, in any case.
-fn param(table: &[u16; 256], s: &[u8]) -> ParamAt
+fn param(table: &[u8; 256], s: &[u8]) -> ParamAt
     requires { ⌜ now table ≡ classTable ⌝ }
     ensures { λ r. ⌜ (r ≡ param (now (s .entry))) × (r .size ≤ length (now (s .entry))) × (r .value + r .len ≤ r .size) ⌝ }
 {
-    let semicolon = sign(table, b';', s);
+    let semicolon = sign(b';', s);
     if semicolon < 1 {
         return NO_PARAM;
     }
-    let after = octets::rest(s, semicolon);
+    let after = past(s, semicolon);
     let name = tokens(table, after);
     if name < 1 {
         return NO_PARAM;
     }
     let is_tag = octets::same_text(b"tag", octets::first(after, name));
     let named = semicolon + name;
-    param_rest(table, named, is_tag, octets::rest(after, name))
+    param_rest(table, named, is_tag, past(after, name))
 }
 
 // No parameter, or a second tag.
@@ -119,7 +120,7 @@ fn with_param(got: ParamsAt, p: ParamAt) -> ParamsAt
 }
 
 // The parameters at the front of a text, up to what is none or a second tag.
-pub(crate) fn params(table: &[u16; 256], s: &[u8]) -> ParamsAt
+pub(crate) fn params(table: &[u8; 256], s: &[u8]) -> ParamsAt
     requires { ⌜ now table ≡ classTable ⌝ }
     ensures { λ r. ⌜ (r ≡ params noParams 0 (now (s .entry))) × (r .size ≤ length (now (s .entry))) × (r .tag + r .len ≤ r .size) ⌝ }
 {
@@ -130,7 +131,7 @@ pub(crate) fn params(table: &[u16; 256], s: &[u8]) -> ParamsAt
     };
     while got.size < s.len() {
         let at = got.size;
-        let p = param(table, octets::rest(s, at));
+        let p = param(table, past(s, at));
         if stops(got, p) {
             return got;
         }

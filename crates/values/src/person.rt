@@ -1,27 +1,26 @@
 // The number that a URI holds: what an identity asserts and a Request-URI calls.
 use super::RequestUri;
 use super::scan::digits;
+use super::scan::past;
 use super::scan::tokens;
 use super::scan::until;
 use super::uri::uri;
 use sip::UriAt;
 ghost use mathlib.Core.Path.{_≡_};
-ghost use mathlib.Core.Bool.{not, _&&_};
-ghost use lib.Dec.{eqb};
 ghost use Rattle.octets.specs.Classes.{classTable};
 ghost use Rattle.sip.specs.Values.{isGlobal, personSize, isShort, isCalled};
 ghost use Rattle.sip.specs.Refusals.{otherScheme};
 ghost use Rattle.values.specs.Answers.{requestUri};
 
 // `+`, a digit 1 to 9, then 6 to 14 digits, and nothing after them.
-pub(crate) fn global(table: &[u16; 256], s: &[u8]) -> bool
+pub(crate) fn global(table: &[u8; 256], s: &[u8]) -> bool
     requires { ⌜ now table ≡ classTable ⌝ }
     ensures { λ r. ⌜ r ≡ isGlobal (now (s .entry)) ⌝ }
 {
     if octets::ahead(s, b'+') < 1 {
         return false;
     }
-    let number = octets::rest(s, 1);
+    let number = past(s, 1);
     if 0 < octets::ahead(number, b'0') {
         return false;
     }
@@ -49,7 +48,7 @@ pub(crate) fn person_size(u: UriAt) -> usize
 }
 
 // 2 to 6 digits, and nothing after them.
-fn short(table: &[u16; 256], s: &[u8]) -> bool
+fn short(table: &[u8; 256], s: &[u8]) -> bool
     requires { ⌜ now table ≡ classTable ⌝ }
     ensures { λ r. ⌜ r ≡ isShort (now (s .entry)) ⌝ }
 {
@@ -63,10 +62,14 @@ fn short(table: &[u16; 256], s: &[u8]) -> bool
 }
 
 // A number alone, or a number, `;` and any bytes.
-fn called(table: &[u16; 256], s: &[u8]) -> bool
+fn called(table: &[u8; 256], s: &[u8]) -> bool
     requires { ⌜ now table ≡ classTable ⌝ }
     ensures { λ r. ⌜ r ≡ isCalled (now (s .entry)) ⌝ }
 {
+    // Most often it is a global number alone, in which no `;` stands.
+    if global(table, s) {
+        return true;
+    }
     let number = octets::first(s, until(s, b';'));
     if global(table, number) {
         return true;
@@ -75,7 +78,7 @@ fn called(table: &[u16; 256], s: &[u8]) -> bool
 }
 
 // A token and a colon stand there, and the token is neither sip nor tel.
-fn other_scheme(table: &[u16; 256], u: &[u8]) -> bool
+fn other_scheme(table: &[u8; 256], u: &[u8]) -> bool
     requires { ⌜ now table ≡ classTable ⌝ }
     ensures { λ r. ⌜ r ≡ otherScheme (now (u .entry)) ⌝ }
 {
@@ -96,28 +99,26 @@ fn other_scheme(table: &[u16; 256], u: &[u8]) -> bool
     !octets::same_text(b"tel", scheme)
 }
 
-// What was read is there, and is all.
-fn fills(size: usize, whole: usize) -> bool
-    ensures { λ r. ⌜ r ≡ (not (eqb size 0) && eqb size whole) ⌝ }
-{
-    if size < 1 {
-        return false;
-    }
-    size == whole
-}
-
-pub(crate) fn request(table: &[u16; 256], u: &[u8]) -> RequestUri
+// A URI's scheme is sip or tel, so that only what is no URI can have another.
+pub(crate) fn request(table: &[u8; 256], u: &[u8]) -> RequestUri
     requires { ⌜ now table ≡ classTable ⌝ }
     ensures { λ r. ⌜ r ≡ requestUri (now (u .entry)) ⌝ }
 {
     let found = uri(table, u);
+    if found.size < 1 {
+        let other = other_scheme(table, u);
+        return RequestUri {
+            other,
+            good: false,
+            called: false,
+        };
+    }
     let size = person_size(found);
-    let person = octets::first(octets::rest(u, 4), size);
-    let other = other_scheme(table, u);
-    let good = fills(found.size, u.len());
+    let person = octets::part(u, 4, size);
+    let good = found.size == u.len();
     let called = called(table, person);
     RequestUri {
-        other,
+        other: false,
         good,
         called,
     }

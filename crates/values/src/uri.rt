@@ -2,6 +2,7 @@
 use super::scan::digits;
 use super::scan::hosts;
 use super::scan::parameters;
+use super::scan::past;
 use super::scan::users;
 use sip::UriAt;
 ghost use mathlib.Core.Path.{_≡_};
@@ -9,6 +10,7 @@ ghost use Prim.Native.Nat.{_+_, _-_, _*_, _≤_};
 ghost use lib.ListN.{length};
 ghost use Rattle.octets.specs.Classes.{classTable};
 ghost use Rattle.sip.specs.Values.{host, port, hostPort, tail, sipFrom, sip, tel, uri};
+ghost use Rattle.values.specs.Answers.{userinfo};
 
 pub(crate) const NO_URI: UriAt = UriAt {
     size: 0,
@@ -18,7 +20,7 @@ pub(crate) const NO_URI: UriAt = UriAt {
 };
 
 // 1 to 253 letters, digits, `-` and `.`.
-fn host(table: &[u16; 256], s: &[u8]) -> usize
+fn host(table: &[u8; 256], s: &[u8]) -> usize
     requires { ⌜ now table ≡ classTable ⌝ }
     ensures { λ r. ⌜ (r ≡ host (now (s .entry))) × (r ≤ length (now (s .entry))) ⌝ }
 {
@@ -36,7 +38,7 @@ fn port(s: &[u8]) -> usize
     if octets::ahead(s, b':') < 1 {
         return 0;
     }
-    let number = octets::number(octets::rest(s, 1), 5, 65535);
+    let number = octets::number(past(s, 1), 5, 65535);
     if number.size < 1 {
         return 0;
     }
@@ -47,7 +49,7 @@ fn port(s: &[u8]) -> usize
 }
 
 // Where a colon follows the host, so must a port.
-fn host_port(table: &[u16; 256], s: &[u8]) -> usize
+fn host_port(table: &[u8; 256], s: &[u8]) -> usize
     requires { ⌜ now table ≡ classTable ⌝ }
     ensures { λ r. ⌜ (r ≡ hostPort (now (s .entry))) × (r ≤ length (now (s .entry))) ⌝ }
 {
@@ -55,7 +57,7 @@ fn host_port(table: &[u16; 256], s: &[u8]) -> usize
     if name < 1 {
         return 0;
     }
-    let after = octets::rest(s, name);
+    let after = past(s, name);
     if octets::ahead(after, b':') < 1 {
         return name;
     }
@@ -67,19 +69,19 @@ fn host_port(table: &[u16; 256], s: &[u8]) -> usize
 }
 
 // `;` and any parameter bytes after it.
-fn tail(table: &[u16; 256], s: &[u8]) -> usize
+fn tail(table: &[u8; 256], s: &[u8]) -> usize
     requires { ⌜ now table ≡ classTable ⌝ }
     ensures { λ r. ⌜ (r ≡ tail (now (s .entry))) × (r ≤ length (now (s .entry))) ⌝ }
 {
     if octets::ahead(s, b';') < 1 {
         return 0;
     }
-    let size = parameters(table, octets::rest(s, 1));
+    let size = parameters(table, past(s, 1));
     size + 1
 }
 
 // Host, port and tail. The n bytes of the URI before them hold `sip:` and the user.
-fn sip_from(table: &[u16; 256], n: usize, user: usize, s: &[u8]) -> UriAt
+fn sip_from(table: &[u8; 256], n: usize, user: usize, s: &[u8]) -> UriAt
     requires { ⌜ (now table ≡ classTable) × (user + 4 ≤ n) × (n + length (now s) ≤ 18446744073709551615) ⌝ }
     ensures { λ r. ⌜ (r ≡ sipFrom n user (now (s .entry))) × (r .size ≤ n + length (now (s .entry))) × (r .tail ≤ r .size) × (r .user + 4 ≤ r .tail + 4 * (1 - r .size)) ⌝ }
 {
@@ -88,7 +90,7 @@ fn sip_from(table: &[u16; 256], n: usize, user: usize, s: &[u8]) -> UriAt
         return NO_URI;
     }
     let before = n + place;
-    let after = tail(table, octets::rest(s, place));
+    let after = tail(table, past(s, place));
     UriAt {
         size: before + after,
         tel: false,
@@ -97,32 +99,50 @@ fn sip_from(table: &[u16; 256], n: usize, user: usize, s: &[u8]) -> UriAt
     }
 }
 
-// What stands after `sip:`.
-fn sip(table: &[u16; 256], s: &[u8]) -> UriAt
+// A user and its `@`. 0 where there is none.
+fn userinfo(table: &[u8; 256], s: &[u8]) -> usize
+    requires { ⌜ now table ≡ classTable ⌝ }
+    ensures { λ r. ⌜ (r ≡ userinfo (now (s .entry))) × (r ≤ length (now (s .entry))) ⌝ }
+{
+    let user = users(table, s);
+    if octets::ahead(past(s, user), b'@') < 1 {
+        return 0;
+    }
+    user + 1
+}
+
+// The user without its `@`.
+fn user_size(info: usize) -> usize
+    ensures { λ r. ⌜ r ≡ info - 1 ⌝ }
+{
+    if info < 1 {
+        return 0;
+    }
+    info - 1
+}
+
+// What stands after `sip:`. The user has 1 to 64 bytes.
+fn sip(table: &[u8; 256], s: &[u8]) -> UriAt
     requires { ⌜ now table ≡ classTable ⌝ }
     ensures { λ r. ⌜ (r ≡ sip (now (s .entry))) × (r .size ≤ length (now (s .entry)) + 4) × (r .tail ≤ r .size) × (r .user + 4 ≤ r .tail + 4 * (1 - r .size)) ⌝ }
 {
-    let user = users(table, s);
-    if octets::ahead(octets::rest(s, user), b'@') < 1 {
-        return sip_from(table, 4, 0, s);
-    }
-    if user < 1 {
+    let info = userinfo(table, s);
+    if info == 1 {
         return NO_URI;
     }
-    if 64 < user {
+    if 65 < info {
         return NO_URI;
     }
-    let next = user + 1;
-    sip_from(table, user + 5, user, octets::rest(s, next))
+    sip_from(table, info + 4, user_size(info), past(s, info))
 }
 
 // What stands after `tel:`.
-fn tel(table: &[u16; 256], s: &[u8]) -> UriAt
+fn tel(table: &[u8; 256], s: &[u8]) -> UriAt
     requires { ⌜ now table ≡ classTable ⌝ }
     ensures { λ r. ⌜ (r ≡ tel (now (s .entry))) × (r .size ≤ length (now (s .entry)) + 4) × (r .tail ≤ r .size) × (r .user + 4 ≤ r .tail + 4 * (1 - r .size)) ⌝ }
 {
     let plus = octets::ahead(s, b'+');
-    let count = digits(table, octets::rest(s, plus));
+    let count = digits(table, past(s, plus));
     if count < 1 {
         return NO_URI;
     }
@@ -130,7 +150,7 @@ fn tel(table: &[u16; 256], s: &[u8]) -> UriAt
         return NO_URI;
     }
     let number = plus + count;
-    let after = tail(table, octets::rest(s, number));
+    let after = tail(table, past(s, number));
     let before = 4 + number;
     UriAt {
         size: before + after,
@@ -141,7 +161,7 @@ fn tel(table: &[u16; 256], s: &[u8]) -> UriAt
 }
 
 // The last bound: the user stands behind four bytes and before the tail. It holds where there is no URI too, with a size of 0.
-pub(crate) fn uri(table: &[u16; 256], s: &[u8]) -> UriAt
+pub(crate) fn uri(table: &[u8; 256], s: &[u8]) -> UriAt
     requires { ⌜ now table ≡ classTable ⌝ }
     ensures { λ r. ⌜ (r ≡ uri (now (s .entry))) × (r .size ≤ length (now (s .entry))) × (r .tail ≤ r .size) × (r .user + 4 ≤ r .tail + 4 * (1 - r .size)) ⌝ }
 {
@@ -150,10 +170,10 @@ pub(crate) fn uri(table: &[u16; 256], s: &[u8]) -> UriAt
     }
     let scheme = octets::first(s, 4);
     if octets::same_text(b"sip:", scheme) {
-        return sip(table, octets::rest(s, 4));
+        return sip(table, past(s, 4));
     }
     if octets::same_text(b"tel:", scheme) {
-        return tel(table, octets::rest(s, 4));
+        return tel(table, past(s, 4));
     }
     NO_URI
 }

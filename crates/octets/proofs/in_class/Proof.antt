@@ -5,9 +5,6 @@ use borrow.Author.Needs.{needs}
 use Rattle.octets.proofs.in_class.Statement.{statement}
 use Rattle.octets.proofs.in_class.Tie as tie
 
-mul-result : tie.Need-mul-result
-mul-result c = search needs
-
 element-copy-out-result : tie.Need-element-copy-out-result
 element-copy-out-result c = search needs
 
@@ -16,4 +13,4 @@ unfolding inTable
 returns c = refl
 
 pub in-class-spec : {M : Type 1} → statement M
-in-class-spec = tie.close (tie.spec mul-result element-copy-out-result returns)
+in-class-spec = tie.close (tie.spec element-copy-out-result returns)

@@ -1,23 +1,16 @@
 -- `octets::rest` meets its contract: past the end nothing is left, and before it the part of the slice is all that is left.
-use mathlib.Core.Path.{_≡_, sym, ap, _∙_}
+use mathlib.Core.Path.{_≡_, sym}
 use mathlib.Core.List.{List, []}
-use Prim.Native.Nat.{ℕ, _-_, _≤_}
+use Prim.Native.Nat.{ℕ, _≤_}
 use native.Mathlib.Omega.{arith}
-use lib.ListN.{length, take, drop, drop-of-length-le, length-drop}
-use lib.Seq.{take-all}
+use lib.ListN.{length, drop, drop-of-length-le}
+use Rattle.octets.proofs.Places.{drop-slice}
 use borrow.Author.Needs.{needs}
 use Rattle.octets.proofs.rest.Statement.{statement}
 use Rattle.octets.proofs.rest.Tie as tie
 
-module _ (s : List ℕ) (n : ℕ) where
-  none : length s ≤ n → [] ≡ drop n s
-  none h = sym (drop-of-length-le s h)
-
-  some : take (length s - n) (drop n s) ≡ drop n s
-  some = take-all (length s - n) (drop n s) (simp length-drop (omega arith))
-
-  long : length (take (length s - n) (drop n s)) ≡ length s - n
-  long = ap length some ∙ length-drop n s
+none : (s : List ℕ) (n : ℕ) → length s ≤ n → [] ≡ drop n s
+none s n h = sym (drop-of-length-le s h)
 
 slice-aggregate-result : tie.Need-slice-aggregate-result
 slice-aggregate-result c = search needs
@@ -35,7 +28,7 @@ part-result-end : tie.Need-part-result-end
 part-result-end c = search needs
 
 returns-2 : tie.Need-returns-2
-returns-2 c = search (some, long)
+returns-2 c = search (drop-slice, needs)
 
 pub rest-spec : {M : Type 1} → statement M
 rest-spec =

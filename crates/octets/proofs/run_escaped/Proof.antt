@@ -8,9 +8,9 @@ use lib.Bits.{bitAnd}
 use lib.ListN.{length, drop, getD}
 use borrow.Author.Tests.{not-true, not-false}
 use Rattle.octets.specs.Classes.{inTable}
-use Rattle.octets.specs.Scans.{escape, runEscaped}
+use Rattle.octets.specs.Scans.{run, escape, runEscaped}
 use Rattle.octets.proofs.Classes.{in-no, in-yes}
-use Rattle.octets.proofs.Escapes.{escape-short, runEscaped-yes, runEscaped-stop, runEscaped-escape, runEscaped-end}
+use Rattle.octets.proofs.Escapes.{escape-short, runEscaped-run, runEscaped-yes, runEscaped-stop, runEscaped-escape, runEscaped-end}
 use borrow.Author.Needs.{needs}
 use Rattle.octets.proofs.run_escaped.Statement.{statement}
 use Rattle.octets.proofs.run_escaped.Tie as tie
@@ -39,23 +39,27 @@ module _ (t : List ℕ) (m : ℕ) (s : List ℕ) (i : ℕ) (e : runEscaped (inTa
             → runEscaped (inTable t m) 0 s ≡ k + runEscaped (inTable t m) 0 (drop k s)
         three n l z = rw z (omega (arith, runEscaped-escape (inTable t m) s i (omega arith) out (sym hb ∙ not-false b n)))
 
+begins : (t : List ℕ) (m : ℕ) (s : List ℕ) {i : ℕ} → i ≡ run (inTable t m) s
+    → runEscaped (inTable t m) 0 s ≡ i + runEscaped (inTable t m) 0 (drop i s)
+begins t m s e = rw e (runEscaped-run (inTable t m) s)
+
 abbrev Inv-loop : tie.InvT-loop
 Inv-loop table s mask i₀ i = (i ≤ length s) × (runEscaped (inTable table mask) 0 s ≡ i + runEscaped (inTable table mask) 0 (drop i s))
 
 abbrev μ-loop : tie.MeasureT-loop
 μ-loop table s mask i₀ i = length s - i
 
+run-requires : tie.Need-run-requires Inv-loop μ-loop
+run-requires c κs = search needs
+
 loop-holds : tie.Need-loop-holds Inv-loop μ-loop
-loop-holds c = search needs
+loop-holds c = search (begins, arith)
 
 shared-slice-read-b : tie.Need-shared-slice-read-b Inv-loop μ-loop
 shared-slice-read-b c = search needs
 
 cast-b : tie.Need-cast-b Inv-loop μ-loop
 cast-b c = omega (arith, c .shared-slice-known2 .given (c .before .before .loop .i))
-
-mul-if1 : tie.Need-mul-if1 Inv-loop μ-loop
-mul-if1 c = omega (arith, c .shared-slice-known2 .given (c .before .before .loop .i))
 
 element-copy-out-if1 : tie.Need-element-copy-out-if1 Inv-loop μ-loop
 element-copy-out-if1 c = omega (arith, c .shared-slice-known2 .given (c .before .before .loop .i))
@@ -99,10 +103,10 @@ run-escaped-spec =
     (tie.spec
     Inv-loop
     μ-loop
+    run-requires
     loop-holds
     shared-slice-read-b
     cast-b
-    mul-if1
     element-copy-out-if1
     add-i
     loop-less

@@ -32,8 +32,8 @@ module _ (s : List ℕ) {d : ℕ} (hd : d ≡ display s) {t : List ℕ} (ht : t 
 display-requires : tie.Need-display-requires
 display-requires c κs = search needs
 
-rest-requires : tie.Need-rest-requires
-rest-requires c κs = search needs
+past-requires : tie.Need-past-requires
+past-requires c κs = search needs
 
 ahead-requires : tie.Need-ahead-requires
 ahead-requires c κs = search needs
@@ -41,8 +41,8 @@ ahead-requires c κs = search needs
 add-next : tie.Need-add-next
 add-next c = search needs
 
-rest-requires-2 : tie.Need-rest-requires-2
-rest-requires-2 c κs = search needs
+past-requires-2 : tie.Need-past-requires-2
+past-requires-2 c κs = search needs
 
 bracketed-requires : tie.Need-bracketed-requires
 bracketed-requires c κs = search needs
@@ -64,10 +64,10 @@ address-spec =
     tie.close
     (tie.spec
     display-requires
-    rest-requires
+    past-requires
     ahead-requires
     add-next
-    rest-requires-2
+    past-requires-2
     bracketed-requires
     returns
     uri-requires

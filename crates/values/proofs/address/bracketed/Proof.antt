@@ -34,8 +34,8 @@ uri-requires c κs = search needs
 returns : tie.Need-returns
 returns c = search (none, arith)
 
-rest-requires : tie.Need-rest-requires
-rest-requires c κs = search needs
+past-requires : tie.Need-past-requires
+past-requires c κs = search needs
 
 ahead-requires : tie.Need-ahead-requires
 ahead-requires c κs = search needs
@@ -61,7 +61,7 @@ bracketed-spec =
     (tie.spec
     uri-requires
     returns
-    rest-requires
+    past-requires
     ahead-requires
     returns-2
     add-at

@@ -22,11 +22,10 @@ module _ (v : List ℕ) {a : AddressAt} (ha : a ≡ address v) where
   unfolding identityAt isIdentity
   none z = rw (← ha, is-zero (a .size) z)
 
-  module _ (m : 1 ≤ a .size) {k : ℕ} (hk : k ≡ a .at + 4) {n : ℕ} (hn : n ≡ personSize (a .uri)) {t : List ℕ} (ht : t ≡ drop k v)
-      {f : List ℕ} (hf : f ≡ take n t) {b : Bool} (hb : b ≡ isGlobal f) where
+  module _ (m : 1 ≤ a .size) {k : ℕ} (hk : k ≡ a .at + 4) {n : ℕ} (hn : n ≡ personSize (a .uri)) {f : List ℕ} (hf : f ≡ take n (drop k v)) {b : Bool} (hb : b ≡ isGlobal f) where
     is : isIdentity v ≡ (eqb (a .size) (length v) && b)
     unfolding isIdentity identity
-    is = rw (← ha, not-zero (a .size) m, person-at (a .uri) (a .at) v, ← hk, ← hn, ← ht, ← hf, ← hb)
+    is = rw (← ha, not-zero (a .size) m, person-at (a .uri) (a .at) v, ← hk, ← hn, ← hf, ← hb)
 
     no-number : not b ≡ true → noSpan ≡ identityAt v
     unfolding identityAt
@@ -52,11 +51,8 @@ add-start c = search needs
 person-size-requires : tie.Need-person-size-requires
 person-size-requires c κs = search needs
 
-rest-requires : tie.Need-rest-requires
-rest-requires c κs = search needs
-
-first-requires : tie.Need-first-requires
-first-requires c κs = search needs
+part-requires : tie.Need-part-requires
+part-requires c κs = search needs
 
 global-requires : tie.Need-global-requires
 global-requires c κs = search needs
@@ -78,8 +74,7 @@ identity-spec =
     returns
     add-start
     person-size-requires
-    rest-requires
-    first-requires
+    part-requires
     global-requires
     returns-2
     returns-3

@@ -34,8 +34,8 @@ address-requires c κs = search needs
 returns : tie.Need-returns
 returns c = search (none, arith)
 
-rest-requires : tie.Need-rest-requires
-rest-requires c κs = search needs
+past-requires : tie.Need-past-requires
+past-requires c κs = search needs
 
 params-requires : tie.Need-params-requires
 params-requires c κs = search needs
@@ -58,7 +58,7 @@ party-spec =
     (tie.spec
     address-requires
     returns
-    rest-requires
+    past-requires
     params-requires
     add-end
     returns-2

@@ -33,8 +33,8 @@ number-requires c κs = search needs
 returns : tie.Need-returns
 returns c = search none
 
-rest-requires : tie.Need-rest-requires
-rest-requires c κs = search needs
+past-requires : tie.Need-past-requires
+past-requires c κs = search needs
 
 blanks-requires : tie.Need-blanks-requires
 blanks-requires c κs = search needs
@@ -45,8 +45,8 @@ returns-2 c = search joined
 add-next : tie.Need-add-next
 add-next c = search needs
 
-rest-requires-2 : tie.Need-rest-requires-2
-rest-requires-2 c κs = search needs
+past-requires-2 : tie.Need-past-requires-2
+past-requires-2 c κs = search needs
 
 same-requires : tie.Need-same-requires
 same-requires c κs = search needs
@@ -60,10 +60,10 @@ cseq-spec =
     (tie.spec
     number-requires
     returns
-    rest-requires
+    past-requires
     blanks-requires
     returns-2
     add-next
-    rest-requires-2
+    past-requires-2
     same-requires
     returns-3)

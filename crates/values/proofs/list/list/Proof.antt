@@ -58,8 +58,8 @@ abbrev μ-loop : tie.MeasureT-loop
 loop-holds : tie.Need-loop-holds Inv-loop μ-loop
 loop-holds c = search (begins, arith)
 
-rest-requires : tie.Need-rest-requires Inv-loop μ-loop
-rest-requires c κs = search needs
+past-requires : tie.Need-past-requires Inv-loop μ-loop
+past-requires c κs = search needs
 
 tokens-requires : tie.Need-tokens-requires Inv-loop μ-loop
 tokens-requires c κs = search needs
@@ -76,8 +76,8 @@ place-requires c κs = search needs
 add-count : tie.Need-add-count Inv-loop μ-loop
 add-count c = search needs
 
-rest-requires-2 : tie.Need-rest-requires-2 Inv-loop μ-loop
-rest-requires-2 c κs = search needs
+past-requires-2 : tie.Need-past-requires-2 Inv-loop μ-loop
+past-requires-2 c κs = search needs
 
 returns-2 : tie.Need-returns-2 Inv-loop μ-loop
 returns-2 c = search whole
@@ -110,13 +110,13 @@ list-spec =
     Inv-loop
     μ-loop
     loop-holds
-    rest-requires
+    past-requires
     tokens-requires
     returns
     first-requires
     place-requires
     add-count
-    rest-requires-2
+    past-requires-2
     returns-2
     sign-requires
     returns-3

@@ -35,8 +35,8 @@ sign-requires c κs = search needs
 returns : tie.Need-returns
 returns c = search (no-sign, arith)
 
-rest-requires : tie.Need-rest-requires
-rest-requires c κs = search needs
+past-requires : tie.Need-past-requires
+past-requires c κs = search needs
 
 tokens-requires : tie.Need-tokens-requires
 tokens-requires c κs = search needs
@@ -56,8 +56,8 @@ same-text-requires c κs = search needs
 add-named : tie.Need-add-named
 add-named c = search needs
 
-rest-requires-2 : tie.Need-rest-requires-2
-rest-requires-2 c κs = search needs
+past-requires-2 : tie.Need-past-requires-2
+past-requires-2 c κs = search needs
 
 param-rest-requires : tie.Need-param-rest-requires
 param-rest-requires c κs = search needs
@@ -71,13 +71,13 @@ param-spec =
     (tie.spec
     sign-requires
     returns
-    rest-requires
+    past-requires
     tokens-requires
     returns-2
     slice-aggregate-same-text
     first-requires
     same-text-requires
     add-named
-    rest-requires-2
+    past-requires-2
     param-rest-requires
     returns-3)

@@ -38,8 +38,8 @@ returns c = search (no-value, arith)
 returns-2 : tie.Need-returns-2
 returns-2 c = search (alone, arith)
 
-rest-requires : tie.Need-rest-requires
-rest-requires c κs = search needs
+past-requires : tie.Need-past-requires
+past-requires c κs = search needs
 
 param-value-requires : tie.Need-param-value-requires
 param-value-requires c κs = search needs
@@ -63,7 +63,7 @@ param-rest-spec =
     sign-requires
     returns
     returns-2
-    rest-requires
+    past-requires
     param-value-requires
     returns-3
     add-value

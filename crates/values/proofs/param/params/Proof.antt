@@ -18,8 +18,8 @@ abbrev μ-loop : tie.MeasureT-loop
 loop-holds : tie.Need-loop-holds Inv-loop μ-loop
 loop-holds c = search needs
 
-rest-requires : tie.Need-rest-requires Inv-loop μ-loop
-rest-requires c κs = search needs
+past-requires : tie.Need-past-requires Inv-loop μ-loop
+past-requires c κs = search needs
 
 param-requires : tie.Need-param-requires Inv-loop μ-loop
 param-requires c κs = search needs
@@ -49,7 +49,7 @@ params-spec =
     Inv-loop
     μ-loop
     loop-holds
-    rest-requires
+    past-requires
     param-requires
     stops-requires
     returns

@@ -44,8 +44,8 @@ ahead-requires c κs = search needs
 returns : tie.Need-returns
 returns c = search no-plus
 
-rest-requires : tie.Need-rest-requires
-rest-requires c κs = search needs
+past-requires : tie.Need-past-requires
+past-requires c κs = search needs
 
 ahead-requires-2 : tie.Need-ahead-requires-2
 ahead-requires-2 c κs = search needs
@@ -74,7 +74,7 @@ global-spec =
     (tie.spec
     ahead-requires
     returns
-    rest-requires
+    past-requires
     ahead-requires-2
     returns-2
     digits-requires

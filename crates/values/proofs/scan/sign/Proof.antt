@@ -24,8 +24,8 @@ module _ (b : ℕ) (s : List ℕ) {n : ℕ} (hn : n ≡ run isBlank s) {t : List
 blanks-requires : tie.Need-blanks-requires
 blanks-requires c κs = search needs
 
-rest-requires : tie.Need-rest-requires
-rest-requires c κs = search needs
+past-requires : tie.Need-past-requires
+past-requires c κs = search needs
 
 ahead-requires : tie.Need-ahead-requires
 ahead-requires c κs = search needs
@@ -36,8 +36,8 @@ returns c = search (none, arith)
 add-next : tie.Need-add-next
 add-next c = search needs
 
-rest-requires-2 : tie.Need-rest-requires-2
-rest-requires-2 c κs = search needs
+past-requires-2 : tie.Need-past-requires-2
+past-requires-2 c κs = search needs
 
 blanks-requires-2 : tie.Need-blanks-requires-2
 blanks-requires-2 c κs = search needs
@@ -53,11 +53,11 @@ sign-spec =
     tie.close
     (tie.spec
     blanks-requires
-    rest-requires
+    past-requires
     ahead-requires
     returns
     add-next
-    rest-requires-2
+    past-requires-2
     blanks-requires-2
     add-result
     returns-2)

@@ -11,7 +11,7 @@ run-requires : tie.Need-run-requires
 run-requires c κs = search needs
 
 returns : tie.Need-returns
-returns c = search (by-class run 256 visible-class, arith)
+returns c = search (by-class run 8 visible-class, arith)
 
 pub visible-spec : {M : Type 1} → statement M
 visible-spec = tie.close (tie.spec run-requires returns)

@@ -38,8 +38,8 @@ host-requires c κs = search needs
 returns : tie.Need-returns
 returns c = search (none, arith)
 
-rest-requires : tie.Need-rest-requires
-rest-requires c κs = search needs
+past-requires : tie.Need-past-requires
+past-requires c κs = search needs
 
 ahead-requires : tie.Need-ahead-requires
 ahead-requires c κs = search needs
@@ -65,7 +65,7 @@ host-port-spec =
     (tie.spec
     host-requires
     returns
-    rest-requires
+    past-requires
     ahead-requires
     returns-2
     port-requires

@@ -41,8 +41,8 @@ ahead-requires c κs = search needs
 returns : tie.Need-returns
 returns c = search (no-colon, arith)
 
-rest-requires : tie.Need-rest-requires
-rest-requires c κs = search needs
+past-requires : tie.Need-past-requires
+past-requires c κs = search needs
 
 number-requires : tie.Need-number-requires
 number-requires c κs = search needs
@@ -65,7 +65,7 @@ port-spec =
     (tie.spec
     ahead-requires
     returns
-    rest-requires
+    past-requires
     number-requires
     returns-2
     returns-3

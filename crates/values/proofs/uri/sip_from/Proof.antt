@@ -30,8 +30,8 @@ returns c = search (none, arith)
 add-before : tie.Need-add-before
 add-before c = search needs
 
-rest-requires : tie.Need-rest-requires
-rest-requires c κs = search needs
+past-requires : tie.Need-past-requires
+past-requires c κs = search needs
 
 tail-requires : tie.Need-tail-requires
 tail-requires c κs = search needs
@@ -45,4 +45,4 @@ returns-2 c = search (good, arith)
 pub sip-from-spec : {M : Type 1} → statement M
 sip-from-spec =
     tie.close
-    (tie.spec host-port-requires returns add-before rest-requires tail-requires add-t10 returns-2)
+    (tie.spec host-port-requires returns add-before past-requires tail-requires add-t10 returns-2)

@@ -27,8 +27,8 @@ ahead-requires c κs = search needs
 returns : tie.Need-returns
 returns c = search (none, arith)
 
-rest-requires : tie.Need-rest-requires
-rest-requires c κs = search needs
+past-requires : tie.Need-past-requires
+past-requires c κs = search needs
 
 parameters-requires : tie.Need-parameters-requires
 parameters-requires c κs = search needs
@@ -42,4 +42,4 @@ returns-2 c = search (some, arith)
 pub tail-spec : {M : Type 1} → statement M
 tail-spec =
     tie.close
-    (tie.spec ahead-requires returns rest-requires parameters-requires add-result returns-2)
+    (tie.spec ahead-requires returns past-requires parameters-requires add-result returns-2)

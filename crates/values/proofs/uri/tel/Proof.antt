@@ -32,8 +32,8 @@ module _ (s : List ℕ) {p : ℕ} (hp : p ≡ bit (starts 43 s)) {t : List ℕ} 
 ahead-requires : tie.Need-ahead-requires
 ahead-requires c κs = search needs
 
-rest-requires : tie.Need-rest-requires
-rest-requires c κs = search needs
+past-requires : tie.Need-past-requires
+past-requires c κs = search needs
 
 digits-requires : tie.Need-digits-requires
 digits-requires c κs = search needs
@@ -47,8 +47,8 @@ returns-2 c = search (many, arith)
 add-number : tie.Need-add-number
 add-number c = search needs
 
-rest-requires-2 : tie.Need-rest-requires-2
-rest-requires-2 c κs = search needs
+past-requires-2 : tie.Need-past-requires-2
+past-requires-2 c κs = search needs
 
 tail-requires : tie.Need-tail-requires
 tail-requires c κs = search needs
@@ -67,12 +67,12 @@ tel-spec =
     tie.close
     (tie.spec
     ahead-requires
-    rest-requires
+    past-requires
     digits-requires
     returns
     returns-2
     add-number
-    rest-requires-2
+    past-requires-2
     tail-requires
     add-before
     add-t11

@@ -49,8 +49,8 @@ slice-aggregate-same-text c = search needs
 same-text-requires : tie.Need-same-text-requires
 same-text-requires c κs = search needs
 
-rest-requires : tie.Need-rest-requires
-rest-requires c κs = search needs
+past-requires : tie.Need-past-requires
+past-requires c κs = search needs
 
 sip-requires : tie.Need-sip-requires
 sip-requires c κs = search needs
@@ -64,8 +64,8 @@ slice-aggregate-same-text-2 c = search needs
 same-text-requires-2 : tie.Need-same-text-requires-2
 same-text-requires-2 c κs = search needs
 
-rest-requires-2 : tie.Need-rest-requires-2
-rest-requires-2 c κs = search needs
+past-requires-2 : tie.Need-past-requires-2
+past-requires-2 c κs = search needs
 
 tel-requires : tie.Need-tel-requires
 tel-requires c κs = search needs
@@ -84,12 +84,12 @@ uri-spec =
     first-requires
     slice-aggregate-same-text
     same-text-requires
-    rest-requires
+    past-requires
     sip-requires
     returns-2
     slice-aggregate-same-text-2
     same-text-requires-2
-    rest-requires-2
+    past-requires-2
     tel-requires
     returns-3
     returns-4)
