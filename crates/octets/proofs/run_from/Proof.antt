@@ -25,7 +25,7 @@ module _ (t : List ℕ) (m : ℕ) (s : List ℕ) (at i : ℕ) (e : at + run (inT
   ended h = omega (arith, run-end (inTable t m) s i h)
 
 abbrev Inv-loop : tie.InvT-loop
-Inv-loop table s at mask i₀ i = (i ≤ length s) × (at + run (inTable table mask) (drop at s) ≡ i + run (inTable table mask) (drop i s))
+Inv-loop table s at mask i₀ i = (i ≤ at + (length s - at)) × (at + run (inTable table mask) (drop at s) ≡ i + run (inTable table mask) (drop i s))
 
 abbrev μ-loop : tie.MeasureT-loop
 μ-loop table s at mask i₀ i = length s - i
