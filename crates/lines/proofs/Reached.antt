@@ -147,13 +147,10 @@ module _ (m : List ℕ) (method uri number at count : ℕ) (ns : List ℕ) (h : 
   unfolding settled
   over l z = rw z (sym (h .same ∙ rw (drop-of-length-le m l, header-nil)))
 
-  module _ {t : List ℕ} (ht : t ≡ drop at m) {b : Bool} (hb : b ≡ startsCRLF t) where
-    crlf-is : startsCRLF (drop at m) ≡ b
-    crlf-is = sym (hb ∙ ap startsCRLF ht)
-
+  module _ {b : Bool} (hb : b ≡ startsCRLF (drop at m)) where
     module _ (q : b ≡ true) where
       at-empty : message m ≡ messageFrom m method uri (h .done) number at (some (record { fields = []; rest = drop 2 (drop at m) }))
-      at-empty = h .same ∙ ap (messageFrom m method uri (h .done) number at) (header-done (drop at m) (crlf-is ∙ q))
+      at-empty = h .same ∙ ap (messageFrom m method uri (h .done) number at) (header-done (drop at m) (sym hb ∙ q))
 
       pub many : 96 < number → {x : Ended} → x ≡ refusedEnd 5 → settled method uri x ns ≡ message m
       unfolding settled
@@ -162,14 +159,14 @@ module _ (m : List ℕ) (method uri number at count : ℕ) (ns : List ℕ) (h : 
       pub ends : number ≤ 96 → {k : ℕ} → k ≡ at + 2 → settled method uri (record { reason = 0; rest = k; count = count }) ns ≡ message m
       unfolding settled slotsOf
       ends l {k} z =
-          let room : 2 ≤ length (drop at m) = crlf-room (drop at m) (crlf-is ∙ q) in
+          let room : 2 ≤ length (drop at m) = crlf-room (drop at m) (sym hb ∙ q) in
           let w : length m - length (drop 2 (drop at m)) ≡ k = omega (arith, length-drop 2 (drop at m), length-drop at m) in
           sym (at-empty ∙ rw (le-leb (number + 0) 96 (omega arith), w, append-nil (h .done), ← h .held, ← h .counted))
 
     module _ (n : b ≡ false) {r : FieldAt} (hr : r ≡ fieldAt m at) where
       pub bad : r ≡ Bad → {x : Ended} → x ≡ refusedEnd 4 → settled method uri x ns ≡ message m
       unfolding settled
-      bad q z = rw z (sym (h .same ∙ rw (header-bad (drop at m) (crlf-is ∙ n) (field-bad m at hr q))))
+      bad q z = rw z (sym (h .same ∙ rw (header-bad (drop at m) (sym hb ∙ n) (field-bad m at hr q))))
 
       module _ {x v e : ℕ} {d : Bool} (q : r ≡ Found x v e d) where
         found : FieldRead m at x v e d
@@ -178,11 +175,14 @@ module _ (m : List ℕ) (method uri number at count : ℕ) (ns : List ℕ) (h : 
         pub name-after : at ≤ x
         name-after = omega (arith, field-fits m at hr q)
 
-        pub value-before : v ≤ e
-        value-before = omega (arith, field-fits m at hr q)
+        pub value-after : x ≤ v
+        value-after = omega (arith, field-fits m at hr q)
 
-        pub end-within : length m ≤ 8192 → e ≤ 8192
-        end-within l = omega (arith, field-fits m at hr q)
+        pub end-after : v ≤ e
+        end-after = omega (arith, field-fits m at hr q)
+
+        pub end-within : e ≤ length m
+        end-within = omega (arith, field-fits m at hr q)
 
         pub next-small : length m ≤ 8192 → {k : ℕ} → k ≡ e + 2 → k < 2 ^ 64
         next-small l z = omega (arith, field-fits m at hr q)
@@ -224,7 +224,7 @@ module _ (m : List ℕ) (method uri number at count : ℕ) (ns : List ℕ) (h : 
         header-is : {k : ℕ} → k ≡ e + 2 → header 0 (drop at m) ≡ withField the (header 0 (drop k m))
         header-is {k} z =
             let y : at + size (found .parts) ≡ k = omega (arith, found) in
-            header-next (drop at m) (found .parts) (crlf-is ∙ n) (found .reads) ∙ rw (drop-drop (size (found .parts)) at m, y)
+            header-next (drop at m) (found .parts) (sym hb ∙ n) (found .reads) ∙ rw (drop-drop (size (found .parts)) at m, y)
 
         module _ {s : Slot} (hs : s ≡ listedSlot (numberOf (take (x - at) (drop at m))) v (take (e - v) (drop v m)))
             {c : ℕ} (hc : c ≡ cond (keeps count s) (count + 1) count) {ns′ : List ℕ} (hn : ns′ ≡ cond (keeps count s) (stored ns count s) ns)

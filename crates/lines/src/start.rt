@@ -13,7 +13,7 @@ fn uri_size(table: &[u16; 256], s: &[u8]) -> usize
     requires { ⌜ now table ≡ classTable ⌝ }
     ensures { λ r. ⌜ (r ≡ uriSize (now (s .entry))) × (r ≤ length (now (s .entry))) ⌝ }
 {
-    let uri = scan::visible(table, s);
+    let uri = scan::visible(table, s, 0);
     if uri < 1 {
         return 0;
     }
@@ -32,7 +32,7 @@ pub(crate) fn read(table: &[u16; 256], s: &[u8]) -> StartAt
     requires { ⌜ now table ≡ classTable ⌝ }
     ensures { λ r. ⌜ r ≡ startAt (now (s .entry)) ⌝ }
 {
-    let method = scan::tokens(table, s);
+    let method = scan::tokens(table, s, 0);
     if method < 1 {
         return StartAt::Bad;
     }

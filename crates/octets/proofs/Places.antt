@@ -1,11 +1,12 @@
--- What is left from a place on begins with the bytes at that place: `drop-cons` of the library, at the code's `i + 1`.
+-- What is left from a place on begins with the bytes at that place: `drop-cons` of the library, at the code's `i + 1`. And it is the
+-- part of a slice from there on.
 use mathlib.Core.Path.{_≡_}
 use mathlib.Core.List.{List, _∷_}
-use Prim.Native.Nat.{ℕ, _+_, _<_}
+use Prim.Native.Nat.{ℕ, _+_, _-_, _<_}
 use native.Mathlib.Omega.{arith}
 use native.Mathlib.Numerals.{add-one}
-use lib.ListN.{length, drop, getD}
-use lib.Seq.{drop-cons}
+use lib.ListN.{length, take, drop, getD, length-drop}
+use lib.Seq.{drop-cons, take-all}
 
 pub drop1 : (s : List ℕ) (i : ℕ) → i < length s → drop i s ≡ getD s i 0 ∷ drop (i + 1) s
 drop1 s i h = rw (add-one, drop-cons s i 0)
@@ -21,3 +22,6 @@ drop3 s i h =
     let k : i + 2 + 1 ≡ i + 3 = omega arith in
     let a : i + 1 < length s = omega arith in
     rw (drop2 s i a, drop1 s (i + 2) h, k)
+
+pub from-place : (s : List ℕ) (n : ℕ) → take (length s - n) (drop n s) ≡ drop n s
+from-place s n = take-all (length s - n) (drop n s) (simp length-drop (omega arith))

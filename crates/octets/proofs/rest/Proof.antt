@@ -4,7 +4,7 @@ use mathlib.Core.List.{List, []}
 use Prim.Native.Nat.{ℕ, _-_, _≤_}
 use native.Mathlib.Omega.{arith}
 use lib.ListN.{length, take, drop, drop-of-length-le, length-drop}
-use lib.Seq.{take-all}
+use Rattle.octets.proofs.Places.{from-place}
 use borrow.Author.Needs.{needs}
 use Rattle.octets.proofs.rest.Statement.{statement}
 use Rattle.octets.proofs.rest.Tie as tie
@@ -13,11 +13,8 @@ module _ (s : List ℕ) (n : ℕ) where
   none : length s ≤ n → [] ≡ drop n s
   none h = sym (drop-of-length-le s h)
 
-  some : take (length s - n) (drop n s) ≡ drop n s
-  some = take-all (length s - n) (drop n s) (simp length-drop (omega arith))
-
   long : length (take (length s - n) (drop n s)) ≡ length s - n
-  long = ap length some ∙ length-drop n s
+  long = ap length (from-place s n) ∙ length-drop n s
 
 slice-aggregate-result : tie.Need-slice-aggregate-result
 slice-aggregate-result c = search needs
@@ -35,7 +32,7 @@ part-result-end : tie.Need-part-result-end
 part-result-end c = search needs
 
 returns-2 : tie.Need-returns-2
-returns-2 c = search (some, long)
+returns-2 c = search (from-place, long)
 
 pub rest-spec : {M : Type 1} → statement M
 rest-spec =
