@@ -1,13 +1,12 @@
 -- A slot that is kept or not, by the tests of `keeps`; and the four stores of one.
-use mathlib.Core.Path.{_≡_, sym, ap, _∙_}
-use mathlib.Core.Bool.{Bool, true, false, cond}
+use mathlib.Core.Path.{_≡_}
+use mathlib.Core.Bool.{true, false, cond}
 use mathlib.Core.List.{List}
 use Prim.Native.Nat.{ℕ, _+_, _*_, _-_, _≤_, _<_}
 use native.Mathlib.Omega.{arith}
 use lib.ListN.{take, drop, set}
 use borrow.Author.Tests.{eq-eqb, ne-eqb, lt-ltb, le-ltb}
-use Rattle.octets.specs.Classes.{bit, isBreak}
-use Rattle.sip.specs.Lines.{any}
+use Rattle.octets.specs.Classes.{bit}
 use Rattle.sip.specs.Profile.{numberOf}
 use Rattle.lines.specs.Index.{noSlot}
 use Rattle.lines.specs.Passes.{slotFor, listedSlot, stored, keeps}

@@ -1,4 +1,4 @@
-// A field: name, spaces or tabs, colon, value, CRLF. All by places of the one text, since a slice for each part would cost more than the part.
+// A field: name, spaces or tabs, colon, value, CRLF. Its parts are places of the one text, so that no slice is made for each of them.
 use crate::FieldAt;
 use crate::scan;
 ghost use mathlib.Core.Path.{_≡_};
@@ -72,7 +72,7 @@ fn blanks_and_colon(table: &[u16; 256], s: &[u8], at: usize) -> usize
     colon + 1
 }
 
-// The same. Most names have their colon right behind them.
+// The same, with a look first at the place itself: most names have their colon right behind them.
 fn colon_end(table: &[u16; 256], s: &[u8], at: usize) -> usize
     requires { ⌜ (now table ≡ classTable) × (at ≤ length (now s)) ⌝ }
     ensures { λ r. ⌜ (r ≡ at + colonSize (drop at (now (s .entry)))) × (r ≤ length (now (s .entry))) ⌝ }
