@@ -8,7 +8,7 @@ use native.Mathlib.Omega.{arith}
 use lib.Dec.{leb, ltb, eqb}
 use lib.ListN.{length, take, drop, length-append, length-drop, drop-of-length-le}
 use lib.Seq.{append-snoc, length-take-le, drop-drop}
-use borrow.Author.Tests.{ltb-true, ltb-false, le-leb, lt-leb}
+use borrow.Author.Tests.{ltb-true, ltb-false, leb-true, leb-false, le-leb, lt-leb}
 use Rattle.octets.specs.Classes.{isBreak}
 use Rattle.sip.specs.Lines.{Start, startSize, startsCRLF, Shape, shape, size, Field, bytes, fieldOf, Header, withField, header, any}
 use Rattle.sip.specs.Profile.{numberOf}
@@ -18,7 +18,7 @@ use Rattle.sip.proofs.Fields.{FieldHere, field-here, length-bytes}
 use Rattle.sip.proofs.Headers.{header-next}
 use Rattle.lines.specs.Places.{startAt, fieldAt}
 use Rattle.lines.specs.Index.{slotOf, slotsOf, padded, unreadMessage, messageOf, message, noSlot}
-use Rattle.lines.specs.Passes.{slotFor, listedSlot, stored, keeps, refusedEnd, settled}
+use Rattle.lines.specs.Passes.{slotFor, listedSlot, stored, keeps, refusedEnd, closedEnd, settled}
 use Rattle.lines.specs.declared.StartAt.the-variants.{Found as StartFound}
 use Rattle.lines.specs.declared.FieldAt.{FieldAt}
 use Rattle.lines.specs.declared.FieldAt.the-variants.{Found, Bad}
@@ -152,16 +152,24 @@ module _ (m : List ℕ) (method uri number at count : ℕ) (ns : List ℕ) (h : 
       at-empty : message m ≡ messageFrom m method uri (h .done) number at (some (record { fields = []; rest = drop 2 (drop at m) }))
       at-empty = h .same ∙ ap (messageFrom m method uri (h .done) number at) (header-done (drop at m) (sym hb ∙ q))
 
-      pub many : 96 < number → {x : Ended} → x ≡ refusedEnd 5 → settled method uri x ns ≡ message m
+      many : 96 < number → {x : Ended} → x ≡ refusedEnd 5 → settled method uri x ns ≡ message m
       unfolding settled
       many l z = rw z (sym (at-empty ∙ rw (lt-leb (number + 0) 96 (omega arith))))
 
-      pub ends : number ≤ 96 → {k : ℕ} → k ≡ at + 2 → settled method uri (record { reason = 0; rest = k; count = count }) ns ≡ message m
+      ends : number ≤ 96 → {k : ℕ} → k ≡ at + 2 → settled method uri (record { reason = 0; rest = k; count = count }) ns ≡ message m
       unfolding settled slotsOf
       ends l {k} z =
           let room : 2 ≤ length (drop at m) = crlf-room (drop at m) (sym hb ∙ q) in
           let w : length m - length (drop 2 (drop at m)) ≡ k = omega (arith, length-drop 2 (drop at m), length-drop at m) in
           sym (at-empty ∙ rw (le-leb (number + 0) 96 (omega arith), w, append-nil (h .done), ← h .held, ← h .counted))
+
+      pub closes : {k : ℕ} → k ≡ at + 2 → {x : Ended} → x ≡ closedEnd number k count → settled method uri x ns ≡ message m
+      unfolding closedEnd
+      closes {k} z {x} y = go (leb number 96) refl
+        where
+          go : (t : Bool) → leb number 96 ≡ t → settled method uri x ns ≡ message m
+          go true e = rw (y, e) (ends (leb-true number 96 e) z)
+          go false e = many (leb-false number 96 e) (y ∙ rw e)
 
     module _ (n : b ≡ false) {r : FieldAt} (hr : r ≡ fieldAt m at) where
       pub bad : r ≡ Bad → {x : Ended} → x ≡ refusedEnd 4 → settled method uri x ns ≡ message m

@@ -16,7 +16,7 @@ ghost use Rattle.sip.specs.Lines.{any};
 ghost use Rattle.sip.specs.Profile.{numberOf};
 ghost use Rattle.lines.specs.Places.{startAt};
 ghost use Rattle.lines.specs.Index.{padded, unreadMessage, message};
-ghost use Rattle.lines.specs.Passes.{slotFor, listedSlot, Small, stored, keeps, refusedEnd, settled};
+ghost use Rattle.lines.specs.Passes.{slotFor, listedSlot, Small, stored, keeps, refusedEnd, closedEnd, settled};
 ghost use Rattle.lines.specs.declared.StartAt.the-variants.{Found};
 
 // How the fields end: the reason why they are not read, or 0; where the rest starts; how many listed fields have a slot.
@@ -160,6 +160,20 @@ fn refused(reason: u64) -> Ended
     }
 }
 
+// An empty line ends the fields, after number of them.
+fn closed(number: usize, rest: usize, count: usize) -> Ended
+    ensures { λ r. ⌜ r ≡ closedEnd number rest count ⌝ }
+{
+    if number <= 96 {
+        return Ended {
+            reason: 0,
+            rest,
+            count,
+        };
+    }
+    refused(5)
+}
+
 // Reads the fields after a start line of these lengths. Past 96 of them it goes on without slots, since a bad shape comes first.
 fn fields(table: &[u16; 256], s: &[u8], slots: &mut [u16; 384], method: usize, uri: usize) -> Ended
     requires { ⌜ (now table ≡ classTable) × (length (now s) ≤ 8192) × (startAt (now s) ≡ Found method uri) × (method + uri + 11 ≤ length (now s)) × (now slots ≡ padded []) ⌝ }
@@ -170,15 +184,8 @@ fn fields(table: &[u16; 256], s: &[u8], slots: &mut [u16; 384], method: usize, u
     let mut at = method + uri + 11;
     while at < s.len() {
         if field::is_empty_line(s, at) {
-            if number <= 96 {
-                let rest = at + 2;
-                return Ended {
-                    reason: 0,
-                    rest,
-                    count,
-                };
-            }
-            return refused(5);
+            let rest = at + 2;
+            return closed(number, rest, count);
         }
         let FieldAt::Found {
             name,

@@ -1,7 +1,7 @@
 -- The invariant: what is stored, and what the fields from place at on come to, are the message. The measure is what is left of the text.
 use Prim.Native.Nat.{_≤_, _-_}
 use lib.ListN.{length}
-use Rattle.lines.proofs.Reached.{Reached, begin, over, many, ends, bad, name-after, value-after, end-after, end-within, value-folded, next-small, next-within, next-less, next-few, next}
+use Rattle.lines.proofs.Reached.{Reached, begin, over, closes, bad, name-after, value-after, end-after, end-within, value-folded, next-small, next-within, next-less, next-few, next}
 use borrow.Author.Needs.{needs}
 use Rattle.lines.proofs.header.fields.Statement.{statement}
 use Rattle.lines.proofs.header.fields.Tie as tie
@@ -28,14 +28,11 @@ is-empty-line-requires c κs = search needs
 add-rest : tie.Need-add-rest Inv-loop μ-loop
 add-rest c = search needs
 
+closed-requires : tie.Need-closed-requires Inv-loop μ-loop
+closed-requires c κs = search needs
+
 returns : tie.Need-returns Inv-loop μ-loop
-returns c = search ends
-
-refused-requires : tie.Need-refused-requires Inv-loop μ-loop
-refused-requires c κs = search needs
-
-returns-2 : tie.Need-returns-2 Inv-loop μ-loop
-returns-2 c = search many
+returns c = search closes
 
 read-requires : tie.Need-read-requires Inv-loop μ-loop
 read-requires c κs = search needs
@@ -46,11 +43,11 @@ enum-known-name c = search needs
 enum-told : tie.Need-enum-told Inv-loop μ-loop
 enum-told c = search needs
 
-refused-requires-2 : tie.Need-refused-requires-2 Inv-loop μ-loop
-refused-requires-2 c κs = search needs
+refused-requires : tie.Need-refused-requires Inv-loop μ-loop
+refused-requires c κs = search needs
 
-returns-3 : tie.Need-returns-3 Inv-loop μ-loop
-returns-3 c = search bad
+returns-2 : tie.Need-returns-2 Inv-loop μ-loop
+returns-2 c = search bad
 
 slot-of-requires : tie.Need-slot-of-requires Inv-loop μ-loop
 slot-of-requires c κs = (search name-after, search value-after, search end-after, search end-within, search needs, search value-folded)
@@ -70,11 +67,11 @@ loop-less c = search next-less
 loop-again : tie.Need-loop-again Inv-loop μ-loop
 loop-again c = (search next-within, search next-few, search next)
 
-refused-requires-3 : tie.Need-refused-requires-3 Inv-loop μ-loop
-refused-requires-3 c κs = search needs
+refused-requires-2 : tie.Need-refused-requires-2 Inv-loop μ-loop
+refused-requires-2 c κs = search needs
 
-returns-4 : tie.Need-returns-4 Inv-loop μ-loop
-returns-4 c = search over
+returns-3 : tie.Need-returns-3 Inv-loop μ-loop
+returns-3 c = search over
 
 pub fields-spec : {M : Type 1} → statement M
 fields-spec =
@@ -87,19 +84,18 @@ fields-spec =
     loop-holds
     is-empty-line-requires
     add-rest
+    closed-requires
     returns
-    refused-requires
-    returns-2
     read-requires
     enum-known-name
     enum-told
-    refused-requires-2
-    returns-3
+    refused-requires
+    returns-2
     slot-of-requires
     add-requires
     add-number
     add-at-3
     loop-less
     loop-again
-    refused-requires-3
-    returns-4)
+    refused-requires-2
+    returns-3)
