@@ -2,7 +2,7 @@
 use mathlib.Core.Path.{_≡_, refl, sym, ap, _∙_}
 use mathlib.Core.Bool.{Bool, true, false, not, cond, _||_}
 use mathlib.Core.List.{List, [], _∷_}
-use Prim.Native.Nat.{ℕ, zero, suc, _+_, _≤_, _<_}
+use Prim.Native.Nat.{ℕ, zero, suc, _+_, _-_, _≤_, _<_}
 use native.Mathlib.Omega.{arith}
 use lib.ListN.{length, take, drop, getD, drop-of-length-le}
 use borrow.Author.Tests.{ne-eqb, not-true}
@@ -131,9 +131,9 @@ module _ (number at : ℕ) (v : List ℕ) {p : Span} (hp : p ≡ valuePart v) wh
           slot-by (sym (ap (any isBreak) (trim-part v) ∙ any-take isBreak (length (trim isGap v)) (drop (run isGap v) v) (any-drop isBreak (run isGap v) v n)))
 
       pub broken-slot :
-          {x y : List ℕ} → x ≡ drop (p .start) v → y ≡ take l x → {f : Bool} → f ≡ any isBreak y
+          {g e : ℕ} → g ≡ p .start → e ≡ g + l → {f : Bool} → f ≡ any isBreak (take (e - g) (drop g v))
           → record { number = number; start = i; len = l; folded = f } ≡ slotFor number at v
-      broken-slot {x} {y} hx hy hf =
-          let a : p .start ≡ run isGap v = ap (λ (z : Span). z .start) part-is in
-          let b : l ≡ length (trim isGap v) = k ∙ ap (λ (z : Span). z .len) part-is in
-          slot-by (hf ∙ ap (any isBreak) (hy ∙ rw (hx, a, b) (sym (trim-part v))))
+      broken-slot {g} {e} hg he hf =
+          let a : g ≡ run isGap v = hg ∙ ap (λ (z : Span). z .start) part-is in
+          let b : e - g ≡ length (trim isGap v) = omega (arith, ap (λ (z : Span). z .len) part-is) in
+          slot-by (hf ∙ ap (any isBreak) (rw (b, a) (sym (trim-part v))))

@@ -6,32 +6,60 @@ use mathlib.Core.Option.{Option, none, some}
 use Prim.Native.Nat.{ℕ, _+_, _-_, _≤_, _<_}
 use native.Mathlib.Omega.{arith}
 use lib.Dec.{eqb}
-use lib.ListN.{length, drop, length-drop}
+use lib.ListN.{length, drop, getD, drop-of-length-le, length-drop}
 use lib.Seq.{drop-drop}
-use borrow.Author.Tests.{eqb-false, eq-eqb, ne-eqb, not-true}
-use Rattle.octets.specs.Classes.{bit, isToken, isBlank, isValue}
+use borrow.Author.Tests.{eqb-true, eqb-false, eq-eqb, ne-eqb, not-true}
+use Rattle.octets.specs.Classes.{isToken, isBlank, isValue}
 use Rattle.octets.specs.Scans.{run, starts}
-use Rattle.octets.proofs.Classes.{bit-no, bit-yes}
+use Rattle.octets.proofs.Places.{drop1}
+use Rattle.octets.proofs.Runs.{run-stop, run-end}
 use Rattle.sip.specs.Lines.{Shape, shape, shapeOf, size, valueSize}
 use Rattle.lines.specs.Places.{breaks, fieldPlaces, fieldAt}
-use Rattle.lines.specs.Sizes.{colonSize, ended, endedSize}
+use Rattle.lines.specs.Sizes.{colonSize, endAt, valueEnd}
 use Rattle.lines.specs.declared.FieldAt.{FieldAt}
 use Rattle.lines.specs.declared.FieldAt.the-variants.{Found, Bad}
-use Rattle.lines.proofs.Values.{value-fits, value-breaks}
+use Rattle.lines.proofs.Values.{value-fits, value-breaks, line-end}
 
 -- ---- spaces or tabs, and a colon
 
-module _ (s : List ℕ) (g : ℕ) (hg : g ≡ run isBlank s) {t : List ℕ} (ht : t ≡ drop g s) {x : ℕ} (hx : x ≡ bit (starts 58 t)) where
-  t-is : starts 58 (drop (run isBlank s) s) ≡ starts 58 t
-  t-is = ap (starts 58) (ap (λ (i : ℕ). drop i s) (sym hg) ∙ sym ht)
+starts-past : (s : List ℕ) (g : ℕ) → length s ≤ g → starts 58 (drop g s) ≡ false
+unfolding starts
+starts-past s g h = rw (drop-of-length-le s h)
 
-  pub no-colon : x < 1 → 0 ≡ colonSize s
-  unfolding colonSize
-  no-colon h = rw (t-is, bit-no (starts 58 t) hx h)
+starts-at : (s : List ℕ) (g : ℕ) → g < length s → starts 58 (drop g s) ≡ eqb (getD s g 0) 58
+unfolding starts
+starts-at s g h = rw (drop1 s g h)
 
-  pub a-colon : 1 ≤ x → {k : ℕ} → k ≡ g + 1 → k ≡ colonSize s
+-- the spaces or tabs at a place end at g
+module _ (s : List ℕ) (at : ℕ) {g : ℕ} (hg : g ≡ at + run isBlank (drop at s)) where
+  by-sign : colonSize (drop at s) ≡ cond (starts 58 (drop g s)) (run isBlank (drop at s) + 1) 0
   unfolding colonSize
-  a-colon h z = rw (t-is, bit-yes (starts 58 t) hx h, ← hg) z
+  by-sign = rw (drop-drop (run isBlank (drop at s)) at s, ← hg)
+
+  no-sign-at : starts 58 (drop g s) ≡ false → at ≡ at + colonSize (drop at s)
+  no-sign-at e = omega (arith, rw e at by-sign)
+
+  sign-at : starts 58 (drop g s) ≡ true → {k : ℕ} → k ≡ g + 1 → k ≡ at + colonSize (drop at s)
+  sign-at e z = omega (arith, rw e at by-sign)
+
+  pub colon-past : length s ≤ g → at ≡ at + colonSize (drop at s)
+  colon-past h = no-sign-at (starts-past s g h)
+
+  module _ (h : g < length s) where
+    pub no-colon : (getD s g 0 ≡ 58 → ⊥) → at ≡ at + colonSize (drop at s)
+    no-colon n = no-sign-at (starts-at s g h ∙ ne-eqb (getD s g 0) 58 n)
+
+    pub a-colon : getD s g 0 ≡ 58 → {k : ℕ} → k ≡ g + 1 → k ≡ at + colonSize (drop at s)
+    a-colon e = sign-at (starts-at s g h ∙ eq-eqb (getD s g 0) 58 e)
+
+module _ (s : List ℕ) (at : ℕ) where
+  pub past-colon : length s ≤ at → at ≡ at + colonSize (drop at s)
+  past-colon h = colon-past s at (omega (arith, run-end isBlank s at h)) h
+
+  -- no space or tab stands before it
+  pub colon-here : at < length s → getD s at 0 ≡ 58 → {k : ℕ} → k ≡ at + 1 → k ≡ at + colonSize (drop at s)
+  unfolding isBlank
+  colon-here h e = a-colon s at (omega (arith, run-stop isBlank s at h (rw e))) h e
 
 colon-no : (w : List ℕ) → colonSize w < 1 → starts 58 (drop (run isBlank w) w) ≡ false
 unfolding colonSize
@@ -99,43 +127,69 @@ module _ (f : List ℕ) (g : Shape) where
 
 -- ---- the places of the field
 
-ended-none : (o : Option ℕ) → ended o < 2 → o ≡ none
-ended-none none h = refl
-ended-none (some n) h = absurd (omega arith)
+end-none : (s : List ℕ) (v : ℕ) (o : Option ℕ) → valueSize 0 (drop v s) ≡ o → length s ≤ endAt (length s) v o → o ≡ none
+end-none s v none p h = refl
+end-none s v (some n) p h = absurd (omega (arith, value-fits 0 (drop v s) p, length-drop v s))
 
-ended-some : (o : Option ℕ) → 2 ≤ ended o → o ≡ some (ended o - 2)
-ended-some none h = absurd (omega arith)
-ended-some (some n) h = ap some (omega arith)
+end-some : (past v : ℕ) (o : Option ℕ) {e : ℕ} → e ≡ endAt past v o → e < past → (o ≡ some (e - v)) × (v ≤ e)
+end-some past v none p h = absurd (omega arith)
+end-some past v (some n) p h = (ap some (omega arith), omega arith)
 
-module _ (s : List ℕ) (at : ℕ) {f : List ℕ} (hf : f ≡ drop at s) {n : ℕ} (hn : n ≡ run isToken f) where
-  pub nameless : n < 1 → Bad ≡ fieldAt s at
+eqb-from : (v x y : ℕ) → v ≤ x → v ≤ y → eqb (x - v) (y - v) ≡ eqb x y
+eqb-from v x y a b = go (eqb x y) refl
+  where
+    go : (t : Bool) → eqb x y ≡ t → eqb (x - v) (y - v) ≡ t
+    go true e = eq-eqb (x - v) (y - v) (omega (arith, eqb-true x y e))
+    go false e = ne-eqb (x - v) (y - v) (λ z. eqb-false x y e (omega arith))
+
+module _ (s : List ℕ) (at : ℕ) {x : ℕ} (hx : x ≡ at + run isToken (drop at s)) where
+  name-long : x - at ≡ run isToken (drop at s)
+  name-long = omega arith
+
+  pub nameless : x ≤ at → Bad ≡ fieldAt s at
   unfolding fieldAt
-  nameless h = rw (← hf, no-name f hn h)
+  nameless h = rw (no-name (drop at s) name-long (omega arith))
 
-  module _ (h : 1 ≤ n) {a : List ℕ} (ha : a ≡ drop n f) {c : ℕ} (hc : c ≡ colonSize a) where
-    pub colonless : c < 1 → Bad ≡ fieldAt s at
+  module _ (h : at < x) {v : ℕ} (hv : v ≡ x + colonSize (drop x s)) where
+    at-name : drop x s ≡ drop (x - at) (drop at s)
+    at-name = let z : at + (x - at) ≡ x = omega arith in sym (drop-drop (x - at) at s ∙ ap (λ (i : ℕ). drop i s) z)
+
+    colon-long : v - x ≡ colonSize (drop x s)
+    colon-long = omega arith
+
+    pub colonless : v ≤ x → Bad ≡ fieldAt s at
     unfolding fieldAt
-    colonless l = rw (← hf, no-sign f hn ha hc h l)
+    colonless l = rw (no-sign (drop at s) name-long at-name colon-long (omega arith) (omega arith))
 
-    module _ (l : 1 ≤ c) {b : ℕ} (hb : b ≡ n + c) {t : List ℕ} (ht : t ≡ drop b f) {z : ℕ} (hz : z ≡ endedSize t) where
-      by-value : fieldAt s at ≡ fieldPlaces s at (shapeOf n (c - 1) (valueSize 0 t))
+    module _ (l : x < v) {i : ℕ} (hi : i ≡ v + run isValue (drop v s)) {e : ℕ} (he : e ≡ valueEnd s i) where
+      by-value : fieldAt s at ≡ fieldPlaces s at (shapeOf (x - at) (v - x - 1) (valueSize 0 (drop v s)))
       unfolding fieldAt
-      by-value = rw (← hf, at-value f hn ha hc h l, ← hb, ← ht)
+      by-value =
+          let z : at + (x - at + (v - x)) ≡ v = omega arith in
+          rw (at-value (drop at s) name-long at-name colon-long (omega arith) (omega arith), drop-drop (x - at + (v - x)) at s, z)
 
-      pub endless : z < 2 → Bad ≡ fieldAt s at
-      unfolding endedSize
-      endless q = rw (by-value, ended-none (valueSize 0 t) (omega arith))
+      end-is : e ≡ endAt (length s) v (valueSize 0 (drop v s))
+      unfolding valueEnd
+      end-is = he ∙ sym (line-end s v hi)
 
-      module _ (q : 2 ≤ z) {k : ℕ} (hk : k ≡ z - 2) {i : ℕ} (hi : i ≡ run isValue t) where
-        size-is : valueSize 0 t ≡ some k
-        unfolding endedSize
-        size-is = ended-some (valueSize 0 t) (omega arith) ∙ ap some (omega arith)
+      pub endless : length s ≤ e → Bad ≡ fieldAt s at
+      endless q = rw (by-value, end-none s v (valueSize 0 (drop v s)) refl (omega (arith, end-is)))
 
-        pub found : {x v e : ℕ} → x ≡ at + n → v ≡ at + b → e ≡ v + k → Found x v e (not (eqb k i)) ≡ fieldAt s at
-        found {x} {v} {e} hx hv he =
-            let w : at + n + (c - 1) + 1 ≡ v = omega arith in
-            let d : drop v s ≡ t = ap (λ (j : ℕ). drop j s) hv ∙ sym (drop-drop b at s) ∙ ap (drop b) (sym hf) ∙ sym ht in
-            rw (by-value, size-is, w, d, value-breaks t k size-is, ← hi, ← he, ← hx)
+      module _ (q : e < length s) where
+        sized : (valueSize 0 (drop v s) ≡ some (e - v)) × (v ≤ e)
+        sized = end-some (length s) v (valueSize 0 (drop v s)) end-is q
+
+        folds : breaks (e - v) (drop v s) ≡ not (eqb e i)
+        folds =
+            let r : run isValue (drop v s) ≡ i - v = omega arith in
+            value-breaks (drop v s) (e - v) (sized .0) ∙ rw (r, eqb-from v e i (sized .1) (omega arith))
+
+        pub found : Found x v e (not (eqb e i)) ≡ fieldAt s at
+        found =
+            let a : at + (x - at) ≡ x = omega arith in
+            let b : x + (v - x - 1) + 1 ≡ v = omega arith in
+            let c : v + (e - v) ≡ e = omega (arith, sized .1) in
+            rw (by-value, sized .0, a, b, c, folds)
 
 -- ---- what a caller knows of a field that is found
 

@@ -1,13 +1,12 @@
 -- A slot that is kept or not, by the tests of `keeps`; and the four stores of one.
-use mathlib.Core.Path.{_≡_, sym, ap, _∙_}
-use mathlib.Core.Bool.{Bool, true, false, cond}
+use mathlib.Core.Path.{_≡_}
+use mathlib.Core.Bool.{true, false, cond}
 use mathlib.Core.List.{List}
 use Prim.Native.Nat.{ℕ, _+_, _*_, _-_, _≤_, _<_}
 use native.Mathlib.Omega.{arith}
 use lib.ListN.{take, drop, set}
 use borrow.Author.Tests.{eq-eqb, ne-eqb, lt-ltb, le-ltb}
-use Rattle.octets.specs.Classes.{bit, isBreak}
-use Rattle.sip.specs.Lines.{any}
+use Rattle.octets.specs.Classes.{bit}
 use Rattle.sip.specs.Profile.{numberOf}
 use Rattle.lines.specs.Index.{noSlot}
 use Rattle.lines.specs.Passes.{slotFor, listedSlot, stored, keeps}
@@ -20,22 +19,15 @@ module _ (ns : List ℕ) (i : ℕ) (s : Slot) where
 
 -- ---- the slot of a field between two places
 
-module _ (m : List ℕ) (v e : ℕ) {p : List ℕ} (hp : p ≡ drop v m) {q : List ℕ} (hq : q ≡ take (e - v) p) where
-  pub value-breaks : {d : Bool} → d ≡ any isBreak (take (e - v) (drop v m)) → d ≡ any isBreak q
-  value-breaks h = h ∙ rw (hq, hp)
-
-module _ (m : List ℕ) (at x v e : ℕ) {a : List ℕ} (ha : a ≡ drop at m) {b : List ℕ} (hb : b ≡ take (x - at) a) {n : ℕ} (hn : n ≡ numberOf b) where
-  number-is : numberOf (take (x - at) (drop at m)) ≡ n
-  number-is = sym (hn ∙ ap numberOf (hb ∙ ap (take (x - at)) ha))
-
+module _ (m : List ℕ) (at x v e : ℕ) {n : ℕ} (hn : n ≡ numberOf (take (x - at) (drop at m))) where
   pub unlisted-slot : n < 1 → noSlot ≡ listedSlot (numberOf (take (x - at) (drop at m))) v (take (e - v) (drop v m))
   unfolding listedSlot
-  unlisted-slot h = rw (number-is, eq-eqb n 0 (omega arith))
+  unlisted-slot h = rw (← hn, eq-eqb n 0 (omega arith))
 
-  pub listed-slot : 1 ≤ n → {p : List ℕ} → p ≡ drop v m → {q : List ℕ} → q ≡ take (e - v) p → {r : Slot} → r ≡ slotFor n v q
+  pub listed-slot : 1 ≤ n → {r : Slot} → r ≡ slotFor n v (take (e - v) (drop v m))
       → r ≡ listedSlot (numberOf (take (x - at) (drop at m))) v (take (e - v) (drop v m))
   unfolding listedSlot
-  listed-slot h hp hq hr = rw (number-is, ne-eqb n 0 (λ z. omega arith)) (hr ∙ rw (hq, hp))
+  listed-slot h hr = rw (← hn, ne-eqb n 0 (λ z. omega arith)) hr
 
 -- ---- the tests of `keeps`
 

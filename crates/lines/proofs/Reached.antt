@@ -8,7 +8,7 @@ use native.Mathlib.Omega.{arith}
 use lib.Dec.{leb, ltb, eqb}
 use lib.ListN.{length, take, drop, length-append, length-drop, drop-of-length-le}
 use lib.Seq.{append-snoc, length-take-le, drop-drop}
-use borrow.Author.Tests.{ltb-true, ltb-false, le-leb, lt-leb}
+use borrow.Author.Tests.{ltb-true, ltb-false, leb-true, leb-false, le-leb, lt-leb}
 use Rattle.octets.specs.Classes.{isBreak}
 use Rattle.sip.specs.Lines.{Start, startSize, startsCRLF, Shape, shape, size, Field, bytes, fieldOf, Header, withField, header, any}
 use Rattle.sip.specs.Profile.{numberOf}
@@ -18,7 +18,7 @@ use Rattle.sip.proofs.Fields.{FieldHere, field-here, length-bytes}
 use Rattle.sip.proofs.Headers.{header-next}
 use Rattle.lines.specs.Places.{startAt, fieldAt}
 use Rattle.lines.specs.Index.{slotOf, slotsOf, padded, Indexed, unreadIndex, indexOf, index, noSlot}
-use Rattle.lines.specs.Passes.{slotFor, listedSlot, stored, keeps, refusedEnd, settled}
+use Rattle.lines.specs.Passes.{slotFor, listedSlot, stored, keeps, refusedEnd, closedEnd, settled}
 use Rattle.lines.specs.declared.StartAt.the-variants.{Found as StartFound}
 use Rattle.lines.specs.declared.FieldAt.{FieldAt}
 use Rattle.lines.specs.declared.FieldAt.the-variants.{Found, Bad}
@@ -149,29 +149,34 @@ module _ (m : List ℕ) (method uri number at count : ℕ) (ns : List ℕ) (h : 
   unfolding settled
   over l z = rw z (sym (h .same ∙ rw (drop-of-length-le m l, header-nil)))
 
-  module _ {t : List ℕ} (ht : t ≡ drop at m) {b : Bool} (hb : b ≡ startsCRLF t) where
-    crlf-is : startsCRLF (drop at m) ≡ b
-    crlf-is = sym (hb ∙ ap startsCRLF ht)
-
+  module _ {b : Bool} (hb : b ≡ startsCRLF (drop at m)) where
     module _ (q : b ≡ true) where
       at-empty : index m ≡ indexFrom m method uri (h .done) number at (some (record { fields = []; rest = drop 2 (drop at m) }))
-      at-empty = h .same ∙ ap (indexFrom m method uri (h .done) number at) (header-done (drop at m) (crlf-is ∙ q))
+      at-empty = h .same ∙ ap (indexFrom m method uri (h .done) number at) (header-done (drop at m) (sym hb ∙ q))
 
-      pub many : 96 < number → {x : Ended} → x ≡ refusedEnd 5 → settled method uri x ns ≡ index m
+      many : 96 < number → {x : Ended} → x ≡ refusedEnd 5 → settled method uri x ns ≡ index m
       unfolding settled
       many l z = rw z (sym (at-empty ∙ rw (lt-leb (number + 0) 96 (omega arith))))
 
-      pub ends : number ≤ 96 → {k : ℕ} → k ≡ at + 2 → settled method uri (record { reason = 0; rest = k; count = count }) ns ≡ index m
+      ends : number ≤ 96 → {k : ℕ} → k ≡ at + 2 → settled method uri (record { reason = 0; rest = k; count = count }) ns ≡ index m
       unfolding settled slotsOf
       ends l {k} z =
-          let room : 2 ≤ length (drop at m) = crlf-room (drop at m) (crlf-is ∙ q) in
+          let room : 2 ≤ length (drop at m) = crlf-room (drop at m) (sym hb ∙ q) in
           let w : length m - length (drop 2 (drop at m)) ≡ k = omega (arith, length-drop 2 (drop at m), length-drop at m) in
           sym (at-empty ∙ rw (le-leb (number + 0) 96 (omega arith), w, append-nil (h .done), ← h .held, ← h .counted))
+
+      pub closes : {k : ℕ} → k ≡ at + 2 → {x : Ended} → x ≡ closedEnd number k count → settled method uri x ns ≡ index m
+      unfolding closedEnd
+      closes {k} z {x} y = go (leb number 96) refl
+        where
+          go : (t : Bool) → leb number 96 ≡ t → settled method uri x ns ≡ index m
+          go true e = rw (y, e) (ends (leb-true number 96 e) z)
+          go false e = many (leb-false number 96 e) (y ∙ rw e)
 
     module _ (n : b ≡ false) {r : FieldAt} (hr : r ≡ fieldAt m at) where
       pub bad : r ≡ Bad → {x : Ended} → x ≡ refusedEnd 4 → settled method uri x ns ≡ index m
       unfolding settled
-      bad q z = rw z (sym (h .same ∙ rw (header-bad (drop at m) (crlf-is ∙ n) (field-bad m at hr q))))
+      bad q z = rw z (sym (h .same ∙ rw (header-bad (drop at m) (sym hb ∙ n) (field-bad m at hr q))))
 
       module _ {x v e : ℕ} {d : Bool} (q : r ≡ Found x v e d) where
         found : FieldRead m at x v e d
@@ -180,11 +185,14 @@ module _ (m : List ℕ) (method uri number at count : ℕ) (ns : List ℕ) (h : 
         pub name-after : at ≤ x
         name-after = omega (arith, field-fits m at hr q)
 
-        pub value-before : v ≤ e
-        value-before = omega (arith, field-fits m at hr q)
+        pub value-after : x ≤ v
+        value-after = omega (arith, field-fits m at hr q)
 
-        pub end-within : length m ≤ 8192 → e ≤ 8192
-        end-within l = omega (arith, field-fits m at hr q)
+        pub end-after : v ≤ e
+        end-after = omega (arith, field-fits m at hr q)
+
+        pub end-within : e ≤ length m
+        end-within = omega (arith, field-fits m at hr q)
 
         pub next-small : length m ≤ 8192 → {k : ℕ} → k ≡ e + 2 → k < 2 ^ 64
         next-small l z = omega (arith, field-fits m at hr q)
@@ -226,7 +234,7 @@ module _ (m : List ℕ) (method uri number at count : ℕ) (ns : List ℕ) (h : 
         header-is : {k : ℕ} → k ≡ e + 2 → header 0 (drop at m) ≡ withField the (header 0 (drop k m))
         header-is {k} z =
             let y : at + size (found .parts) ≡ k = omega (arith, found) in
-            header-next (drop at m) (found .parts) (crlf-is ∙ n) (found .reads) ∙ rw (drop-drop (size (found .parts)) at m, y)
+            header-next (drop at m) (found .parts) (sym hb ∙ n) (found .reads) ∙ rw (drop-drop (size (found .parts)) at m, y)
 
         module _ {s : Slot} (hs : s ≡ listedSlot (numberOf (take (x - at) (drop at m))) v (take (e - v) (drop v m)))
             {c : ℕ} (hc : c ≡ cond (keeps count s) (count + 1) count) {ns′ : List ℕ} (hn : ns′ ≡ cond (keeps count s) (stored ns count s) ns)

@@ -22,14 +22,17 @@ use Rattle.lines.specs.declared.StartAt.the-variants.{Found, Bad}
 
 -- ---- the Request-URI
 
-module _ (s : List ℕ) (u : ℕ) (hu : u ≡ run isVisible s) where
+module _ (s : List ℕ) (u : ℕ) (hu : u ≡ 0 + run isVisible (drop 0 s)) where
+  u-is : run isVisible s ≡ u
+  u-is = omega arith
+
   pub uri-short : u < 1 → 0 ≡ uriSize s
   unfolding uriSize
-  uri-short h = rw (← hu, lt-leb 1 u h)
+  uri-short h = rw (u-is, lt-leb 1 u h)
 
   pub uri-long : 256 < u → 0 ≡ uriSize s
   unfolding uriSize
-  uri-long h = let l : 1 ≤ u = omega arith in rw (← hu, le-leb 1 u l, lt-leb u 256 h)
+  uri-long h = let l : 1 ≤ u = omega arith in rw (u-is, le-leb 1 u l, lt-leb u 256 h)
 
   module _ {t : List ℕ} (ht : t ≡ drop u s) {v : List ℕ} (hv : v ≡ take 10 t) {g : Bool} (hg : g ≡ sameText (text " SIP/2.0\r\n") v) where
     version-is : isVersion (take 10 (drop u s)) ≡ g
@@ -39,11 +42,11 @@ module _ (s : List ℕ) (u : ℕ) (hu : u ≡ run isVisible s) where
     module _ (a : 1 ≤ u) (b : u ≤ 256) where
       pub no-version : not g ≡ true → 0 ≡ uriSize s
       unfolding uriSize
-      no-version q = rw (← hu, version-is, not-true g q, le-leb 1 u a, le-leb u 256 b)
+      no-version q = rw (u-is, version-is, not-true g q, le-leb 1 u a, le-leb u 256 b)
 
       pub a-version : not g ≡ false → u ≡ uriSize s
       unfolding uriSize
-      a-version q = rw (← hu, version-is, not-false g q, le-leb 1 u a, le-leb u 256 b)
+      a-version q = rw (u-is, version-is, not-false g q, le-leb 1 u a, le-leb u 256 b)
 
 -- ---- the whole line
 
@@ -71,21 +74,24 @@ uri-yes w h = go (goodUri w) refl
     go true e = (e, rw e)
     go false e = let z : uriSize w ≡ 0 = rw e in absurd (omega arith)
 
-module _ (s : List ℕ) (m : ℕ) (hm : m ≡ run isToken s) where
+module _ (s : List ℕ) (m : ℕ) (hm : m ≡ 0 + run isToken (drop 0 s)) where
+  m-is : run isToken s ≡ m
+  m-is = omega arith
+
   pub method-short : m < 1 → Bad ≡ startAt s
   unfolding startAt start
-  method-short h = rw (← hm, lt-leb 1 m h)
+  method-short h = rw (m-is, lt-leb 1 m h)
 
   pub method-long : 32 < m → Bad ≡ startAt s
   unfolding startAt start
-  method-long h = let l : 1 ≤ m = omega arith in rw (← hm, le-leb 1 m l, lt-leb m 32 h)
+  method-long h = let l : 1 ≤ m = omega arith in rw (m-is, le-leb 1 m l, lt-leb m 32 h)
 
   module _ (a : 1 ≤ m) (b : m ≤ 32) {t : List ℕ} (ht : t ≡ drop m s) {x : ℕ} (hx : x ≡ bit (starts 32 t)) where
     pub no-space : x < 1 → Bad ≡ startAt s
     unfolding startAt start
     no-space h =
         let q : starts 32 (drop m s) ≡ false = ap (starts 32) (sym ht) ∙ bit-no (starts 32 t) hx h in
-        rw (← hm, le-leb 1 m a, le-leb m 32 b, q)
+        rw (m-is, le-leb 1 m a, le-leb m 32 b, q)
 
     module _ (h : 1 ≤ x) {n : ℕ} (hn : n ≡ m + 1) {w : List ℕ} (hw : w ≡ drop n s) {u : ℕ} (hu : u ≡ uriSize w) where
       space : starts 32 (drop m s) ≡ true
@@ -99,7 +105,7 @@ module _ (s : List ℕ) (m : ℕ) (hm : m ≡ run isToken s) where
 
       pub no-uri : u < 1 → Bad ≡ startAt s
       unfolding startAt start
-      no-uri l = rw (← hm, le-leb 1 m a, le-leb m 32 b, space, ← good-is, uri-no w (omega arith))
+      no-uri l = rw (m-is, le-leb 1 m a, le-leb m 32 b, space, ← good-is, uri-no w (omega arith))
 
       pub a-start : 1 ≤ u → Found m u ≡ startAt s
       unfolding startAt start
@@ -108,7 +114,7 @@ module _ (s : List ℕ) (m : ℕ) (hm : m ≡ run isToken s) where
           let c : run isVisible (drop (m + 1) s) ≡ u = ap (run isVisible) (sym w-is) ∙ y .1 ∙ sym hu in
           let d : length (take m s) ≡ m = length-take-le m s (omega (arith, run-le isToken s)) in
           let f : length (take u (drop (m + 1) s)) ≡ u = length-take-le u (drop (m + 1) s) (omega (arith, run-le isVisible (drop (m + 1) s))) in
-          rw (← hm, le-leb 1 m a, le-leb m 32 b, space, ← good-is, y .0, c, d, f)
+          rw (m-is, le-leb 1 m a, le-leb m 32 b, space, ← good-is, y .0, c, d, f)
 
 -- ---- what a caller knows of a start line that is found
 

@@ -9,6 +9,7 @@ use lib.Seq.{take-length, take-suc, length-take-le}
 use borrow.Author.Tests.{not-true, not-false}
 use Rattle.octets.specs.Classes.{isGap}
 use Rattle.octets.specs.Scans.{run}
+use Rattle.octets.proofs.Places.{drop-slice}
 use Rattle.sip.specs.Lines.{unlessLast, trimEnd, trim}
 use Rattle.sip.specs.Readings.{noSpan}
 use Rattle.sip.specs.Values.{isEmpty}
@@ -57,14 +58,14 @@ module _ (s : List ℕ) where
 
 -- ---- the part of a value
 
-module _ (s : List ℕ) {n : ℕ} (hn : n ≡ run isGap s) {t : List ℕ} (ht : t ≡ drop n s) {l : ℕ} (hl : l ≡ length (trimEnd isGap t)) where
-  trim-is : trim isGap s ≡ trimEnd isGap t
+module _ (s : List ℕ) {n : ℕ} (hn : n ≡ run isGap s) {l : ℕ} (hl : l ≡ length (trimEnd isGap (take (length s - n) (drop n s)))) where
+  long-is : l ≡ length (trim isGap s)
   unfolding trim
-  trim-is = rw (← hn, ← ht)
+  long-is = hl ∙ rw (drop-slice s n, hn)
 
   pub no-part : l < 1 → noSpan ≡ valuePart s
   unfolding valuePart isEmpty
-  no-part h = rw trim-is (go (trimEnd isGap t) (omega arith))
+  no-part h = go (trim isGap s) (omega (arith, long-is))
     where
       go : (v : List ℕ) → length v ≡ 0 → noSpan ≡ cond (isEmpty v) noSpan (record { start = run isGap s; len = length v })
       go [] z = refl
@@ -72,7 +73,7 @@ module _ (s : List ℕ) {n : ℕ} (hn : n ≡ run isGap s) {t : List ℕ} (ht : 
 
   pub a-part : 1 ≤ l → record { start = n; len = l } ≡ valuePart s
   unfolding valuePart isEmpty
-  a-part h = rw (trim-is, hn, hl) (go (trimEnd isGap t) (omega arith))
+  a-part h = rw (hn, long-is) (go (trim isGap s) (omega (arith, long-is)))
     where
       go : (v : List ℕ) → 1 ≤ length v → record { start = run isGap s; len = length v } ≡ cond (isEmpty v) noSpan (record { start = run isGap s; len = length v })
       go [] z = absurd (omega arith)

@@ -11,10 +11,10 @@ use lib.Seq.{drop-drop}
 use borrow.Author.Tests.{eqb-true, eqb-false, eq-eqb, ne-eqb, not-true, not-false}
 use Rattle.octets.specs.Classes.{isBlank, isBreak, isValue}
 use Rattle.octets.specs.Scans.{run}
-use Rattle.octets.proofs.Runs.{run-nil, run-yes, run-no, run-le, run-after}
+use Rattle.octets.proofs.Runs.{run-nil, run-yes, run-no, run-after}
 use Rattle.sip.specs.Lines.{startsCRLF, startsBlank, more, valueSize, any}
 use Rattle.lines.specs.Places.{breaks}
-use Rattle.lines.specs.Sizes.{endedSize}
+use Rattle.lines.specs.Sizes.{endAt, valueEnd}
 
 pub never : {A : Type 0} → false ≡ true → A
 never e = let z : _≡_ {A = ℕ} 0 1 = cc in absurd (omega arith)
@@ -35,7 +35,7 @@ no-crlf b (c ∷ s) v = rw (not-break b v .0)
 
 -- ---- sizes with bytes before them
 
-abbrev pub plus : ℕ → Option ℕ → Option ℕ
+abbrev plus : ℕ → Option ℕ → Option ℕ
 plus n none = none
 plus n (some m) = some (n + m)
 
@@ -61,7 +61,7 @@ value-byte : (b : ℕ) (s : List ℕ) → isValue b ≡ true → valueSize 0 (b 
 unfolding valueSize
 value-byte b s v = rw (no-crlf b s v, v)
 
-pub past-line : (s : List ℕ) → valueSize 0 s ≡ plus (run isValue s) (valueSize 0 (drop (run isValue s) s))
+past-line : (s : List ℕ) → valueSize 0 s ≡ plus (run isValue s) (valueSize 0 (drop (run isValue s) s))
 past-line [] = rw (run-nil isValue) (sym (plus-zero (valueSize 0 [])))
 past-line (b ∷ s) = go (isValue b) refl (past-line s)
   where
@@ -73,17 +73,17 @@ past-line (b ∷ s) = go (isValue b) refl (past-line s)
 
 -- ---- after the value bytes of a line
 
-abbrev pub isFold : List ℕ → Bool
+abbrev isFold : List ℕ → Bool
 isFold t = startsCRLF t && startsBlank (drop 2 t)
 
-pub fold-room : (t : List ℕ) → isFold t ≡ true → 3 ≤ length t
+fold-room : (t : List ℕ) → isFold t ≡ true → 3 ≤ length t
 unfolding startsCRLF startsBlank
 fold-room [] e = never e
 fold-room (a ∷ []) e = never e
 fold-room (a ∷ b ∷ []) e = let f = and-eq-true-iff (eqb a 13 && eqb b 10) false .0 e in never (f .1)
 fold-room (a ∷ b ∷ c ∷ t) e = omega arith
 
-pub fold-size : (t : List ℕ) → isFold t ≡ true → valueSize 0 t ≡ plus 3 (valueSize 0 (drop 3 t))
+fold-size : (t : List ℕ) → isFold t ≡ true → valueSize 0 t ≡ plus 3 (valueSize 0 (drop 3 t))
 unfolding valueSize startsCRLF startsBlank
 fold-size [] e = never e
 fold-size (a ∷ []) e = never e
@@ -102,12 +102,12 @@ crlf-room [] e = never e
 crlf-room (a ∷ []) e = never e
 crlf-room (a ∷ b ∷ t) e = omega arith
 
-pub end-size : (t : List ℕ) → isFold t ≡ false → startsCRLF t ≡ true → valueSize 0 t ≡ some 0
+end-size : (t : List ℕ) → isFold t ≡ false → startsCRLF t ≡ true → valueSize 0 t ≡ some 0
 unfolding valueSize
 end-size [] n e = absurd (omega (arith, crlf-room [] e))
 end-size (a ∷ t) n e = let f : startsBlank (drop 2 (a ∷ t)) ≡ false = rw e at n in rw (e, f)
 
-pub bad-size : (t : List ℕ) → run isValue t ≡ 0 → startsCRLF t ≡ false → valueSize 0 t ≡ none
+bad-size : (t : List ℕ) → run isValue t ≡ 0 → startsCRLF t ≡ false → valueSize 0 t ≡ none
 unfolding valueSize
 bad-size [] z n = refl
 bad-size (a ∷ t) z n = go (isValue a) refl
@@ -174,72 +174,59 @@ value-breaks (b ∷ s) n e = go (isValue b) refl (value-breaks s)
     go true v f = let (m, y, z) = more-inv (valueSize 0 s) (sym (value-byte b s v) ∙ e) in passed b s m n z v (f m y)
     go false v f = rw (run-no isValue b s v) (line (startsCRLF (b ∷ s)) (startsBlank (drop 2 (b ∷ s))) v refl refl)
 
--- ---- a loop over the lines of a value: up to place `end` they are read
+-- ---- the lines of a value in a text: where it ends is where what is left of it ends
 
 module _ (s : List ℕ) where
-  pub line-read : {end : ℕ} → end ≡ run isValue s → valueSize 0 s ≡ plus end (valueSize 0 (drop end s))
-  line-read h = rw h (past-line s)
+  end-plus : (at n : ℕ) (o : Option ℕ) → endAt (length s) at (plus n o) ≡ endAt (length s) (at + n) o
+  end-plus at n none = refl
+  end-plus at n (some m) = omega arith
 
-  pub line-within : {end : ℕ} → end ≡ run isValue s → end ≤ length s
-  line-within h = omega (arith, run-le isValue s)
+  module _ (at : ℕ) {line : ℕ} (h : line ≡ at + run isValue (drop at s)) where
+    rest-is : drop (run isValue (drop at s)) (drop at s) ≡ drop line s
+    rest-is = drop-drop (run isValue (drop at s)) at s ∙ ap (λ (i : ℕ). drop i s) (sym h)
 
-  pub line-over : {end : ℕ} → end ≡ run isValue s → run isValue (drop end s) ≡ 0
-  line-over h = rw h (run-after isValue s)
+    pub line-end : valueEnd s at ≡ valueEnd s line
+    unfolding valueEnd
+    line-end =
+        ap (endAt (length s) at) (past-line (drop at s)) ∙ end-plus at (run isValue (drop at s)) (valueSize 0 (drop (run isValue (drop at s)) (drop at s)))
+        ∙ rw (rest-is, ← h)
 
-  module _ (end : ℕ) {t : List ℕ} (ht : t ≡ drop end s) {f : Bool} (hf : f ≡ isFold t) where
-    -- the value goes on: the next line starts at `next`
-    module _ (y : f ≡ true) where
-      is-fold : isFold (drop end s) ≡ true
-      is-fold = ap isFold (sym ht) ∙ sym hf ∙ y
+    pub line-over : run isValue (drop line s) ≡ 0
+    line-over = ap (run isValue) (sym rest-is) ∙ run-after isValue (drop at s)
 
-      pub next-fits : end + 3 ≤ length s
-      next-fits = omega (arith, fold-room (drop end s) is-fold, length-drop end s)
+  -- the value is read up to `end`
+  module _ (line end : ℕ) (e : valueEnd s line ≡ valueEnd s end) {c : Bool} (hc : c ≡ startsCRLF (drop end s)) where
+    pub ends-bad : c ≡ false → run isValue (drop end s) ≡ 0 → length s ≡ valueEnd s line
+    unfolding valueEnd
+    ends-bad n z = sym (e ∙ rw (bad-size (drop end s) z (sym hc ∙ n)))
 
-      module _ {next : ℕ} (hn : next ≡ end + 3) {u : List ℕ} (hu : u ≡ drop next s) {r : ℕ} (hr : r ≡ run isValue u) {k : ℕ} (hk : k ≡ next + r) where
-        r-is : r ≡ run isValue (drop next s)
-        r-is = hr ∙ ap (run isValue) hu
+    module _ (y : c ≡ true) {after : ℕ} (ha : after ≡ end + 2) {b : Bool} (hb : b ≡ startsBlank (drop after s)) where
+      fold-is : isFold (drop end s) ≡ b
+      fold-is = rw (← hc, y, drop-drop 2 end s, ← ha, ← hb)
 
-        rest-is : drop r (drop next s) ≡ drop k s
-        rest-is = drop-drop r next s ∙ ap (λ (i : ℕ). drop i s) (sym hk)
+      pub ends : not b ≡ true → end ≡ valueEnd s line
+      unfolding valueEnd
+      ends q =
+          let z : end + 0 ≡ end = omega arith in
+          sym (e ∙ rw (end-size (drop end s) (fold-is ∙ not-true b q) (sym hc ∙ y), z))
 
-        pub next-within : k ≤ length s
-        next-within = omega (arith, next-fits, r-is, run-le isValue (drop next s), length-drop next s)
+      -- it goes on, and its next line starts at `next`
+      module _ (q : not b ≡ false) where
+        next-fits : end + 3 ≤ length s
+        next-fits = omega (arith, fold-room (drop end s) (fold-is ∙ not-false b q), length-drop end s)
 
-        pub next-less : length s - k < length s - end
-        next-less = omega (arith, next-fits)
+        module _ {next : ℕ} (hn : next ≡ end + 3) {k : ℕ} (hk : k ≡ next + run isValue (drop next s)) where
+          pub next-within : k ≤ next + (length s - next) → k ≤ length s
+          next-within h = omega (arith, next-fits)
 
-        pub next-over : run isValue (drop k s) ≡ 0
-        next-over = rw (← rest-is, r-is) (run-after isValue (drop next s))
+          pub next-less : length s - k < length s - end
+          next-less = omega (arith, next-fits)
 
-        pub next-read : valueSize 0 s ≡ plus end (valueSize 0 (drop end s)) → valueSize 0 s ≡ plus k (valueSize 0 (drop k s))
-        next-read e =
-            let a : valueSize 0 (drop end s) ≡ plus 3 (valueSize 0 (drop next s)) =
-            fold-size (drop end s) is-fold ∙ rw (drop-drop 3 end s, ← hn) in
-            let b : valueSize 0 (drop next s) ≡ plus r (valueSize 0 (drop k s)) = rw (← rest-is, r-is) (past-line (drop next s)) in
-            let z : end + (3 + r) ≡ k = omega arith in
-            e ∙ rw (a, b, plus-plus 3 r (valueSize 0 (drop k s)), plus-plus end (3 + r) (valueSize 0 (drop k s)), z)
+          pub next-over : run isValue (drop k s) ≡ 0
+          next-over = line-over next hk
 
-    -- the value ends here, or its shape is bad
-    module _ (n : f ≡ false) {x : List ℕ} (hx : x ≡ drop end s) {g : Bool} (hg : g ≡ startsCRLF x) (e : valueSize 0 s ≡ plus end (valueSize 0 (drop end s))) where
-      no-fold : isFold (drop end s) ≡ false
-      no-fold = ap isFold (sym ht) ∙ sym hf ∙ n
-
-      g-is : g ≡ startsCRLF (drop end s)
-      g-is = hg ∙ ap startsCRLF hx
-
-      pub ends-bad : run isValue (drop end s) ≡ 0 → not g ≡ true → 0 ≡ endedSize s
-      unfolding endedSize
-      ends-bad z q = rw (e, bad-size (drop end s) z (sym g-is ∙ not-true g q))
-
-      module _ (q : not g ≡ false) where
-        pub end-fits : end + 2 ≤ length s
-        end-fits = omega (arith, crlf-room (drop end s) (sym g-is ∙ not-false g q), length-drop end s)
-
-        pub ends : {k : ℕ} → k ≡ end + 2 → k ≡ endedSize s
-        unfolding endedSize
-        ends h =
-            let z : end + 0 ≡ end = omega arith in
-            rw (e, end-size (drop end s) no-fold (sym g-is ∙ not-false g q), z) h
-
-        pub ends-within : {k : ℕ} → k ≡ end + 2 → k ≤ length s
-        ends-within h = omega (arith, end-fits)
+          pub next-read : valueEnd s line ≡ valueEnd s k
+          unfolding valueEnd
+          next-read =
+              e ∙ ap (endAt (length s) end) (fold-size (drop end s) (fold-is ∙ not-false b q)) ∙ end-plus end 3 (valueSize 0 (drop 3 (drop end s)))
+              ∙ rw (drop-drop 3 end s, ← hn) (line-end next hk)

@@ -2,7 +2,7 @@
 use mathlib.Core.Bool.{Bool, false, not, cond, _&&_}
 use mathlib.Core.List.{List, [], _∷_, _++_}
 use Prim.Native.Nat.{ℕ, zero, suc, _+_, _*_, _<_}
-use lib.Dec.{eqb, ltb}
+use lib.Dec.{leb, eqb, ltb}
 use lib.ListN.{length, set}
 use Rattle.octets.specs.Classes.{bit, isBreak, isGap}
 use Rattle.octets.specs.Scans.{run}
@@ -44,6 +44,10 @@ keeps count s = not (eqb (s .number) 0) && ltb count 96
 
 abbrev pub refusedEnd : ℕ → Ended
 refusedEnd reason = record { reason = reason; rest = 0; count = 0 }
+
+-- the fields end with an empty line, after number of them
+unfoldable pub closedEnd : ℕ → ℕ → ℕ → Ended
+closedEnd number rest count = cond (leb number 96) (record { reason = 0; rest = rest; count = count }) (refusedEnd 5)
 
 -- the message whose fields end so
 unfoldable pub settled : ℕ → ℕ → Ended → List ℕ → Indexed

@@ -1,5 +1,5 @@
--- What the readers inside this crate answer: how many bytes stand at the front of a text, 0 where nothing good stands there; and a
--- value's part without gaps at both ends.
+-- What the readers inside this crate answer: how many bytes stand at the front of a text, 0 where nothing good stands there; where a
+-- value ends; and its part without gaps at both ends.
 use mathlib.Core.Bool.{cond, _&&_}
 use mathlib.Core.List.{List}
 use mathlib.Core.Option.{Option, none, some}
@@ -24,13 +24,13 @@ colonSize s =
     let g = run isBlank s in
     cond (starts 58 (drop g s)) (g + 1) 0
 
-abbrev pub ended : Option ℕ → ℕ
-ended none = 0
-ended (some n) = n + 2
+abbrev pub endAt : ℕ → ℕ → Option ℕ → ℕ
+endAt past at none = past
+endAt past at (some n) = at + n
 
--- the value with the CRLF that ends it
-unfoldable pub endedSize : List ℕ → ℕ
-endedSize s = ended (valueSize 0 s)
+-- where the value ends that stands at a place; the length of the text where its shape is bad
+unfoldable pub valueEnd : List ℕ → ℕ → ℕ
+valueEnd s at = endAt (length s) at (valueSize 0 (drop at s))
 
 -- "from its first byte that is no space, tab or line break to its last"
 unfoldable pub valuePart : List ℕ → Span

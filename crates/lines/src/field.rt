@@ -1,102 +1,113 @@
-// A field: name, spaces or tabs, colon, value, CRLF.
+// A field: name, spaces or tabs, colon, value, CRLF. Its parts are places of the one text, so that no slice is made for each of them.
 use crate::FieldAt;
 use crate::scan;
 ghost use mathlib.Core.Path.{_≡_};
-ghost use mathlib.Core.Bool.{_&&_};
-ghost use Prim.Native.Nat.{_≤_};
+ghost use Prim.Native.Nat.{_+_, _≤_};
 ghost use lib.ListN.{length, drop};
 ghost use Rattle.octets.specs.Classes.{classTable, isValue};
 ghost use Rattle.octets.specs.Scans.{run};
 ghost use Rattle.sip.specs.Lines.{startsCRLF, startsBlank};
 ghost use Rattle.lines.specs.Places.{fieldAt};
-ghost use Rattle.lines.specs.Sizes.{colonSize, endedSize};
+ghost use Rattle.lines.specs.Sizes.{colonSize, valueEnd};
 
-// A CRLF stands at the front: the fields end there, and so may a value.
-pub(crate) fn is_empty_line(s: &[u8]) -> bool
-    ensures { λ r. ⌜ r ≡ startsCRLF (now (s .entry)) ⌝ }
+// A CRLF stands at a place: the fields end there, and so may a value.
+pub(crate) fn is_empty_line(s: &[u8], at: usize) -> bool
+    ensures { λ r. ⌜ r ≡ startsCRLF (drop at (now (s .entry))) ⌝ }
 {
-    if s.len() < 2 {
+    if s.len() <= at {
         return false;
     }
-    if s[0] != b'\r' {
+    if s[at] != b'\r' {
         return false;
     }
-    s[1] == b'\n'
+    let lf = at + 1;
+    if s.len() <= lf {
+        return false;
+    }
+    s[lf] == b'\n'
 }
 
-// A CRLF and a space or tab stand at the front: a value goes on after them.
-fn is_fold(s: &[u8]) -> bool
-    ensures { λ r. ⌜ r ≡ (startsCRLF (now (s .entry)) && startsBlank (drop 2 (now (s .entry)))) ⌝ }
+// A space or tab stands at a place: a value goes on there after a CRLF.
+fn is_blank(s: &[u8], at: usize) -> bool
+    ensures { λ r. ⌜ r ≡ startsBlank (drop at (now (s .entry))) ⌝ }
 {
-    if s.len() < 3 {
+    if s.len() <= at {
         return false;
     }
-    if !is_empty_line(s) {
-        return false;
-    }
-    if s[2] == b' ' {
+    if s[at] == b' ' {
         return true;
     }
-    s[2] == b'\t'
+    s[at] == b'\t'
 }
 
-// The bytes of the value at the front, of whose first line `line` bytes are read, with the CRLF that ends it. 0 where its shape is bad.
-fn ended_size(table: &[u16; 256], s: &[u8], line: usize) -> usize
-    requires { ⌜ (now table ≡ classTable) × (line ≡ run isValue (now s)) ⌝ }
-    ensures { λ r. ⌜ (r ≡ endedSize (now (s .entry))) × (r ≤ length (now (s .entry))) ⌝ }
+// Where the value ends whose first line ends at `line`. At the end of the text where its shape is bad.
+fn value_end(table: &[u8; 256], s: &[u8], line: usize) -> usize
+    requires { ⌜ (now table ≡ classTable) × (line ≤ length (now s)) × (run isValue (drop line (now s)) ≡ 0) ⌝ }
+    ensures { λ r. ⌜ r ≡ valueEnd (now (s .entry)) line ⌝ }
 {
     let mut end = line;
-    while is_fold(octets::rest(s, end)) {
+    while is_empty_line(s, end) {
+        let after = end + 2;
+        if !is_blank(s, after) {
+            return end;
+        }
         let next = end + 3;
-        end = next + scan::values(table, octets::rest(s, next));
+        end = scan::values(table, s, next);
     }
-    if !is_empty_line(octets::rest(s, end)) {
-        return 0;
-    }
-    end + 2
+    s.len()
 }
 
-// The spaces or tabs and the colon at the front. 0 where there is no colon.
-fn colon_size(table: &[u16; 256], s: &[u8]) -> usize
-    requires { ⌜ now table ≡ classTable ⌝ }
-    ensures { λ r. ⌜ (r ≡ colonSize (now (s .entry))) × (r ≤ length (now (s .entry))) ⌝ }
+// Where the spaces or tabs and the colon end that stand at a place. The place itself where there is no colon.
+fn blanks_and_colon(table: &[u8; 256], s: &[u8], at: usize) -> usize
+    requires { ⌜ (now table ≡ classTable) × (at ≤ length (now s)) ⌝ }
+    ensures { λ r. ⌜ (r ≡ at + colonSize (drop at (now (s .entry)))) × (r ≤ length (now (s .entry))) ⌝ }
 {
-    let gap = scan::blanks(table, s);
-    if octets::ahead(octets::rest(s, gap), b':') < 1 {
-        return 0;
+    let colon = scan::blanks(table, s, at);
+    if s.len() <= colon {
+        return at;
     }
-    gap + 1
+    if s[colon] != b':' {
+        return at;
+    }
+    colon + 1
+}
+
+// The same, with a look first at the place itself: most names have their colon right behind them.
+fn colon_end(table: &[u8; 256], s: &[u8], at: usize) -> usize
+    requires { ⌜ (now table ≡ classTable) × (at ≤ length (now s)) ⌝ }
+    ensures { λ r. ⌜ (r ≡ at + colonSize (drop at (now (s .entry)))) × (r ≤ length (now (s .entry))) ⌝ }
+{
+    if s.len() <= at {
+        return at;
+    }
+    if s[at] == b':' {
+        return at + 1;
+    }
+    blanks_and_colon(table, s, at)
 }
 
 // The field at a place of a text, by the class table that is lent. Past the end nothing is named, so that no place needs a test.
-pub(crate) fn read(table: &[u16; 256], s: &[u8], at: usize) -> FieldAt
+pub(crate) fn read(table: &[u8; 256], s: &[u8], at: usize) -> FieldAt
     requires { ⌜ now table ≡ classTable ⌝ }
     ensures { λ r. ⌜ r ≡ fieldAt (now (s .entry)) at ⌝ }
 {
-    let field = octets::rest(s, at);
-    let name = scan::tokens(table, field);
-    if name < 1 {
+    let name = scan::tokens(table, s, at);
+    if name <= at {
         return FieldAt::Bad;
     }
-    let colon = colon_size(table, octets::rest(field, name));
-    if colon < 1 {
+    let value = colon_end(table, s, name);
+    if value <= name {
         return FieldAt::Bad;
     }
-    let before = name + colon;
-    let text = octets::rest(field, before);
-    let line = scan::values(table, text);
-    let size = ended_size(table, text, line);
-    if size < 2 {
+    let line = scan::values(table, s, value);
+    let end = value_end(table, s, line);
+    if s.len() <= end {
         return FieldAt::Bad;
     }
-    let named = at + name;
-    let value = at + before;
-    let len = size - 2;
-    let end = value + len;
     FieldAt::Found {
-        name: named,
+        name,
         value,
         end,
-        folded: len != line,
+        folded: end != line,
     }
 }

@@ -16,7 +16,7 @@ ghost use Rattle.sip.specs.Lines.{any};
 ghost use Rattle.sip.specs.Profile.{numberOf};
 ghost use Rattle.lines.specs.Places.{startAt};
 ghost use Rattle.lines.specs.Index.{zeros, padded, unreadHead, index};
-ghost use Rattle.lines.specs.Passes.{slotFor, listedSlot, Small, stored, keeps, refusedEnd, settled};
+ghost use Rattle.lines.specs.Passes.{slotFor, listedSlot, Small, stored, keeps, refusedEnd, closedEnd, settled};
 ghost use Rattle.lines.specs.declared.StartAt.the-variants.{Found};
 
 // How the fields end: the reason why they are not read, or 0; where the rest starts; how many listed fields have a slot.
@@ -66,11 +66,11 @@ fn has_break(s: &[u8]) -> bool
 }
 
 // The slot of a field of that number whose value v stands at the place at. A value of one line is not looked at again for a line break.
-fn slot(table: &[u16; 256], number: usize, at: usize, v: &[u8], folded: bool) -> Slot
-    requires { ⌜ (now table ≡ classTable) × (folded ≡ any isBreak (now v)) × (at + length (now v) ≤ 8192) ⌝ }
+fn slot(number: usize, at: usize, v: &[u8], folded: bool) -> Slot
+    requires { ⌜ (folded ≡ any isBreak (now v)) × (at + length (now v) ≤ 8192) ⌝ }
     ensures { λ r. ⌜ (r ≡ slotFor number at (now (v .entry))) × (r .number ≡ number) × (r .start + r .len ≤ 8192) ⌝ }
 {
-    let p = value::trimmed(table, v);
+    let p = value::trimmed(v);
     let len = p.len;
     if len < 1 {
         return Slot {
@@ -90,7 +90,8 @@ fn slot(table: &[u16; 256], number: usize, at: usize, v: &[u8], folded: bool) ->
             folded: false,
         };
     }
-    let broken = has_break(octets::first(octets::rest(v, gap), len));
+    let last = gap + len;
+    let broken = has_break(&v[gap..last]);
     Slot {
         number,
         start,
@@ -100,19 +101,11 @@ fn slot(table: &[u16; 256], number: usize, at: usize, v: &[u8], folded: bool) ->
 }
 
 // The slot of the field between at and end, by where its name ends and its value starts. A field that is not listed has number 0.
-fn slot_of(
-    table: &[u16; 256],
-    s: &[u8],
-    at: usize,
-    name: usize,
-    value: usize,
-    end: usize,
-    folded: bool,
-) -> Slot
-    requires { ⌜ (now table ≡ classTable) × (at ≤ name) × (value ≤ end) × (end ≤ 8192) × (folded ≡ any isBreak (take (end - value) (drop value (now s)))) ⌝ }
+fn slot_of(s: &[u8], at: usize, name: usize, value: usize, end: usize, folded: bool) -> Slot
+    requires { ⌜ (at ≤ name) × (name ≤ value) × (value ≤ end) × (end ≤ length (now s)) × (length (now s) ≤ 8192) × (folded ≡ any isBreak (take (end - value) (drop value (now s)))) ⌝ }
     ensures { λ r. ⌜ (r ≡ listedSlot (numberOf (take (name - at) (drop at (now (s .entry))))) value (take (end - value) (drop value (now (s .entry))))) × (r .number ≤ 18) × (r .start + r .len ≤ 8192) ⌝ }
 {
-    let number = crate::number_of(octets::first(octets::rest(s, at), name - at));
+    let number = crate::number_of(&s[at..name]);
     if number < 1 {
         return Slot {
             number: 0,
@@ -121,13 +114,7 @@ fn slot_of(
             folded: false,
         };
     }
-    slot(
-        table,
-        number,
-        value,
-        octets::first(octets::rest(s, value), end - value),
-        folded,
-    )
+    slot(number, value, &s[value..end], folded)
 }
 
 fn flag(b: bool) -> u16
@@ -181,8 +168,22 @@ fn refused(reason: u64) -> Ended
     }
 }
 
+// An empty line ends the fields, after number of them.
+fn closed(number: usize, rest: usize, count: usize) -> Ended
+    ensures { λ r. ⌜ r ≡ closedEnd number rest count ⌝ }
+{
+    if number <= 96 {
+        return Ended {
+            reason: 0,
+            rest,
+            count,
+        };
+    }
+    refused(5)
+}
+
 // Reads the fields after a start line of these lengths. Past 96 of them it goes on without slots, since a bad shape comes first.
-fn fields(table: &[u16; 256], s: &[u8], slots: &mut [u16; 384], method: usize, uri: usize) -> Ended
+fn fields(table: &[u8; 256], s: &[u8], slots: &mut [u16; 384], method: usize, uri: usize) -> Ended
     requires { ⌜ (now table ≡ classTable) × (length (now s) ≤ 8192) × (startAt (now s) ≡ Found method uri) × (method + uri + 11 ≤ length (now s)) × (now slots ≡ padded []) ⌝ }
     ensures { λ r. ⌜ settled method uri r (now (slots .exit)) ≡ index (now (s .entry)) ⌝ }
 {
@@ -190,40 +191,30 @@ fn fields(table: &[u16; 256], s: &[u8], slots: &mut [u16; 384], method: usize, u
     let mut number: usize = 0;
     let mut at = method + uri + 11;
     while at < s.len() {
-        if field::is_empty_line(octets::rest(s, at)) {
-            if number <= 96 {
-                let rest = at + 2;
-                return Ended {
-                    reason: 0,
-                    rest,
-                    count,
-                };
-            }
-            return refused(5);
+        if field::is_empty_line(s, at) {
+            let rest = at + 2;
+            return closed(number, rest, count);
         }
-        match field::read(table, s, at) {
-            FieldAt::Bad => {
-                return refused(4);
-            }
-            FieldAt::Found {
-                name,
-                value,
-                end,
-                folded,
-            } => {
-                let found = slot_of(table, s, at, name, value, end, folded);
-                count = add(slots, count, found);
-                number += 1;
-                at = end + 2;
-            }
-        }
+        let FieldAt::Found {
+            name,
+            value,
+            end,
+            folded,
+        } = field::read(table, s, at)
+        else {
+            return refused(4);
+        };
+        let found = slot_of(s, at, name, value, end, folded);
+        count = add(slots, count, found);
+        number += 1;
+        at = end + 2;
     }
     refused(4)
 }
 
 // The message after a start line of these lengths.
 fn after_start(
-    table: &[u16; 256],
+    table: &[u8; 256],
     s: &[u8],
     slots: &mut [u16; 384],
     method: usize,
@@ -247,7 +238,7 @@ fn after_start(
     }
 }
 
-pub(crate) fn lines(table: &[u16; 256], s: &[u8], slots: &mut [u16; 384]) -> Message
+pub(crate) fn lines(table: &[u8; 256], s: &[u8], slots: &mut [u16; 384]) -> Message
     requires { ⌜ (now table ≡ classTable) × (length (now s) ≤ 8192) ⌝ }
     ensures { λ r. ⌜ (r ≡ index (now (s .entry)) .head) × (now (slots .exit) ≡ index (now (s .entry)) .slots) ⌝ }
 {

@@ -9,11 +9,11 @@ ghost use Rattle.lines.specs.Places.{startAt};
 ghost use Rattle.lines.specs.Sizes.{uriSize};
 
 // The bytes of the Request-URI at the front. 0 where it is too short or long, or no SIP version ends the line after it.
-fn uri_size(table: &[u16; 256], s: &[u8]) -> usize
+fn uri_size(table: &[u8; 256], s: &[u8]) -> usize
     requires { ⌜ now table ≡ classTable ⌝ }
     ensures { λ r. ⌜ (r ≡ uriSize (now (s .entry))) × (r ≤ length (now (s .entry))) ⌝ }
 {
-    let uri = scan::visible(table, s);
+    let uri = scan::visible(table, s, 0);
     if uri < 1 {
         return 0;
     }
@@ -28,11 +28,11 @@ fn uri_size(table: &[u16; 256], s: &[u8]) -> usize
 }
 
 // The start line at the front of a text, by the class table that is lent.
-pub(crate) fn read(table: &[u16; 256], s: &[u8]) -> StartAt
+pub(crate) fn read(table: &[u8; 256], s: &[u8]) -> StartAt
     requires { ⌜ now table ≡ classTable ⌝ }
     ensures { λ r. ⌜ r ≡ startAt (now (s .entry)) ⌝ }
 {
-    let method = scan::tokens(table, s);
+    let method = scan::tokens(table, s, 0);
     if method < 1 {
         return StartAt::Bad;
     }

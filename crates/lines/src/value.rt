@@ -1,14 +1,14 @@
 // A field's value, without the spaces, tabs and line breaks at both ends.
-use crate::scan;
 use sip::Span;
 ghost use mathlib.Core.Path.{_≡_};
 ghost use Prim.Native.Nat.{_+_, _≤_};
 ghost use lib.ListN.{length};
-ghost use Rattle.octets.specs.Classes.{classTable, isGap};
+ghost use Rattle.octets.specs.Classes.{isGap};
+ghost use Rattle.octets.specs.Scans.{run};
 ghost use Rattle.sip.specs.Lines.{trimEnd};
 ghost use Rattle.lines.specs.Sizes.{valuePart};
 
-// A space, tab, CR or LF. By comparison, since most values end with none and one byte is all that is looked at.
+// A space, tab, CR or LF. By comparison, since most values have one at the front and none at the end.
 fn is_gap(b: u8) -> bool
     ensures { λ r. ⌜ r ≡ isGap b ⌝ }
 {
@@ -22,6 +22,20 @@ fn is_gap(b: u8) -> bool
         return true;
     }
     b == b'\n'
+}
+
+// How many bytes the gap at the front has.
+fn start_of(s: &[u8]) -> usize
+    ensures { λ r. ⌜ (r ≡ run isGap (now (s .entry))) × (r ≤ length (now (s .entry))) ⌝ }
+{
+    let mut i = 0;
+    while i < s.len() {
+        if !is_gap(s[i]) {
+            return i;
+        }
+        i += 1;
+    }
+    i
 }
 
 // How many bytes are left without the gap at the end.
@@ -40,12 +54,11 @@ fn end_of(s: &[u8]) -> usize
 }
 
 // The part from the first byte that is no gap to the last. It is empty where there is none.
-pub(crate) fn trimmed(table: &[u16; 256], s: &[u8]) -> Span
-    requires { ⌜ now table ≡ classTable ⌝ }
+pub(crate) fn trimmed(s: &[u8]) -> Span
     ensures { λ r. ⌜ (r ≡ valuePart (now (s .entry))) × (r .start + r .len ≤ length (now (s .entry))) ⌝ }
 {
-    let start = scan::gaps(table, s);
-    let len = end_of(octets::rest(s, start));
+    let start = start_of(s);
+    let len = end_of(&s[start..]);
     if len < 1 {
         return Span { start: 0, len: 0 };
     }

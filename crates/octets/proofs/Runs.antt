@@ -1,11 +1,12 @@
--- Laws of `run` and `all`, by induction on the text and by the test of its first byte; at a place, by the byte that stands there.
+-- Laws of `run` and `all`, by induction on the text and by the test of its first byte; at a place and in a loop, by the byte that stands there.
 use mathlib.Core.Path.{_≡_, refl, sym, ap, _∙_}
-use mathlib.Core.Bool.{Bool, true, false}
+use mathlib.Core.Bool.{Bool, true, false, not}
 use mathlib.Core.List.{List, [], _∷_, _++_, append-nil}
 use Prim.Native.Nat.{ℕ, suc, _+_, _≤_, _<_}
 use native.Mathlib.Omega.{arith}
 use lib.ListN.{length, take, drop, getD, drop-of-length-le}
 use lib.Seq.{take-length}
+use borrow.Author.Tests.{not-true, not-false}
 use Rattle.octets.specs.Scans.{run, all}
 use Rattle.octets.proofs.Places.{drop1}
 
@@ -89,3 +90,16 @@ module _ (p : ℕ → Bool) where
 
       pub run-stop : p (getD s i 0) ≡ false → run p (drop i s) ≡ 0
       run-stop e = rw (drop1 s i h) (run-no (getD s i 0) (drop (i + 1) s) e)
+
+-- ---- a loop over the bytes of a run that ends at n: it has come to i
+
+module _ (p : ℕ → Bool) (s : List ℕ) (n i : ℕ) (e : n ≡ i + run p (drop i s)) where
+  pub loop-over : length s ≤ i → i ≡ n
+  loop-over h = omega (arith, run-end p s i h)
+
+  module _ (h : i < length s) {a : Bool} (q : a ≡ p (getD s i 0)) where
+    pub loop-stop : not a ≡ true → i ≡ n
+    loop-stop t = omega (arith, run-stop p s i h (rw (← q) (not-true a t)))
+
+    pub loop-next : {k : ℕ} → not a ≡ false → k ≡ i + 1 → n ≡ k + run p (drop k s)
+    loop-next t z = rw z (omega (arith, run-at p s i h (rw (← q) (not-false a t))))

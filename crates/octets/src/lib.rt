@@ -74,8 +74,7 @@ fn four(table: &[u8; 256], s: &[u8], at: usize, mask: u8) -> usize
 
 // Where the run ends that goes on at a place, byte by byte.
 fn run_from(table: &[u8; 256], s: &[u8], at: usize, mask: u8) -> usize
-    requires { ⌜ at ≤ length (now s) ⌝ }
-    ensures { λ r. ⌜ (r ≡ at + run (inTable (now (table .entry)) mask) (drop at (now (s .entry)))) × (r ≤ length (now (s .entry))) ⌝ }
+    ensures { λ r. ⌜ (r ≡ at + run (inTable (now (table .entry)) mask) (drop at (now (s .entry)))) × (r ≤ at + (length (now (s .entry)) - at)) ⌝ }
 {
     let mut i = at;
     while i < s.len() {
@@ -87,23 +86,31 @@ fn run_from(table: &[u8; 256], s: &[u8], at: usize, mask: u8) -> usize
     i
 }
 
-// How many of the leading bytes are in a class of the mask, by the table that is lent. Four bytes a turn: one test of the place for four bytes.
+// Where the run of bytes ends that goes on at a place, in a class of the mask by the table that is lent. Past the end it is empty.
+// Four bytes a turn: one test of the place for four bytes.
+pub fn run_at(table: &[u8; 256], s: &[u8], at: usize, mask: u8) -> usize
+    ensures { λ r. ⌜ (r ≡ at + run (inTable (now (table .entry)) mask) (drop at (now (s .entry)))) × (r ≤ at + (length (now (s .entry)) - at)) ⌝ }
+{
+    if s.len() < 4 {
+        return run_from(table, s, at, mask);
+    }
+    let last = s.len() - 3;
+    let mut i = at;
+    while i < last {
+        let more = four(table, s, i, mask);
+        if more < 4 {
+            return i + more;
+        }
+        i += 4;
+    }
+    run_from(table, s, i, mask)
+}
+
+// How many of the leading bytes are in a class of the mask, by the table that is lent.
 pub fn run(table: &[u8; 256], s: &[u8], mask: u8) -> usize
     ensures { λ r. ⌜ (r ≡ run (inTable (now (table .entry)) mask) (now (s .entry))) × (r ≤ length (now (s .entry))) ⌝ }
 {
-    if s.len() < 4 {
-        return run_from(table, s, 0, mask);
-    }
-    let last = s.len() - 3;
-    let mut size = 0;
-    while size < last {
-        let more = four(table, s, size, mask);
-        if more < 4 {
-            return size + more;
-        }
-        size += 4;
-    }
-    run_from(table, s, size, mask)
+    run_at(table, s, 0, mask)
 }
 
 // What is left after n bytes.

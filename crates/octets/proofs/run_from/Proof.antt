@@ -1,31 +1,17 @@
 -- `octets::run_from` meets its contract. The invariant: the run from the place on is what was passed and the run of what is left from i on.
 use mathlib.Core.Path.{_≡_}
-use mathlib.Core.Bool.{Bool, true, false, not}
-use mathlib.Core.List.{List}
-use Prim.Native.Nat.{ℕ, _+_, _-_, _<_, _≤_}
+use Prim.Native.Nat.{_+_, _-_, _≤_}
 use native.Mathlib.Omega.{arith}
-use lib.ListN.{length, drop, getD}
-use borrow.Author.Tests.{not-true, not-false}
+use lib.ListN.{length, drop}
 use Rattle.octets.specs.Classes.{inTable}
 use Rattle.octets.specs.Scans.{run}
-use Rattle.octets.proofs.Runs.{run-at, run-stop, run-end}
+use Rattle.octets.proofs.Runs.{loop-stop, loop-next, loop-over}
 use borrow.Author.Needs.{needs}
 use Rattle.octets.proofs.run_from.Statement.{statement}
 use Rattle.octets.proofs.run_from.Tie as tie
 
-module _ (t : List ℕ) (m : ℕ) (s : List ℕ) (at i : ℕ) (e : at + run (inTable t m) (drop at s) ≡ i + run (inTable t m) (drop i s)) where
-  module _ (h : i < length s) {a : Bool} (q : a ≡ inTable t m (getD s i 0)) where
-    stop : not a ≡ true → i ≡ at + run (inTable t m) (drop at s)
-    stop n = omega (arith, run-stop (inTable t m) s i h (rw (← q) (not-true a n)))
-
-    again : {k : ℕ} → not a ≡ false → k ≡ i + 1 → at + run (inTable t m) (drop at s) ≡ k + run (inTable t m) (drop k s)
-    again n z = rw z (omega (arith, run-at (inTable t m) s i h (rw (← q) (not-false a n))))
-
-  ended : length s ≤ i → i ≡ at + run (inTable t m) (drop at s)
-  ended h = omega (arith, run-end (inTable t m) s i h)
-
 abbrev Inv-loop : tie.InvT-loop
-Inv-loop table s at mask i₀ i = (i ≤ length s) × (at + run (inTable table mask) (drop at s) ≡ i + run (inTable table mask) (drop i s))
+Inv-loop table s at mask i₀ i = (i ≤ at + (length s - at)) × (at + run (inTable table mask) (drop at s) ≡ i + run (inTable table mask) (drop i s))
 
 abbrev μ-loop : tie.MeasureT-loop
 μ-loop table s at mask i₀ i = length s - i
@@ -40,7 +26,7 @@ in-class-requires : tie.Need-in-class-requires Inv-loop μ-loop
 in-class-requires c κs = search needs
 
 returns : tie.Need-returns Inv-loop μ-loop
-returns c = search (stop, arith)
+returns c = search (loop-stop, arith)
 
 add-i : tie.Need-add-i Inv-loop μ-loop
 add-i c = search needs
@@ -49,10 +35,10 @@ loop-less : tie.Need-loop-less Inv-loop μ-loop
 loop-less c = search needs
 
 loop-again : tie.Need-loop-again Inv-loop μ-loop
-loop-again c = search (again, arith)
+loop-again c = search (loop-next, arith)
 
 returns-2 : tie.Need-returns-2 Inv-loop μ-loop
-returns-2 c = search (ended, arith)
+returns-2 c = search (loop-over, arith)
 
 pub run-from-spec : {M : Type 1} → statement M
 run-from-spec =

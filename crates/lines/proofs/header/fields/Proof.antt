@@ -1,7 +1,7 @@
 -- The invariant: what is stored, and what the fields from place at on come to, are the message. The measure is what is left of the text.
 use Prim.Native.Nat.{_≤_, _-_}
 use lib.ListN.{length}
-use Rattle.lines.proofs.Reached.{Reached, begin, over, many, ends, bad, name-after, value-before, end-within, value-folded, next-small, next-within, next-less, next-few, next}
+use Rattle.lines.proofs.Reached.{Reached, begin, over, closes, bad, name-after, value-after, end-after, end-within, value-folded, next-small, next-within, next-less, next-few, next}
 use borrow.Author.Needs.{needs}
 use Rattle.lines.proofs.header.fields.Statement.{statement}
 use Rattle.lines.proofs.header.fields.Tie as tie
@@ -22,41 +22,35 @@ add-at-2 c = search needs
 loop-holds : tie.Need-loop-holds Inv-loop μ-loop
 loop-holds c = search (begin, needs)
 
-rest-requires : tie.Need-rest-requires Inv-loop μ-loop
-rest-requires c κs = search needs
-
 is-empty-line-requires : tie.Need-is-empty-line-requires Inv-loop μ-loop
 is-empty-line-requires c κs = search needs
 
 add-rest : tie.Need-add-rest Inv-loop μ-loop
 add-rest c = search needs
 
+closed-requires : tie.Need-closed-requires Inv-loop μ-loop
+closed-requires c κs = search needs
+
 returns : tie.Need-returns Inv-loop μ-loop
-returns c = search ends
+returns c = search closes
+
+read-requires : tie.Need-read-requires Inv-loop μ-loop
+read-requires c κs = search needs
+
+enum-known-name : tie.Need-enum-known-name Inv-loop μ-loop
+enum-known-name c = search needs
+
+enum-told : tie.Need-enum-told Inv-loop μ-loop
+enum-told c = search needs
 
 refused-requires : tie.Need-refused-requires Inv-loop μ-loop
 refused-requires c κs = search needs
 
 returns-2 : tie.Need-returns-2 Inv-loop μ-loop
-returns-2 c = search many
-
-read-requires : tie.Need-read-requires Inv-loop μ-loop
-read-requires c κs = search needs
-
-enum-told : tie.Need-enum-told Inv-loop μ-loop
-enum-told c = search needs
-
-refused-requires-2 : tie.Need-refused-requires-2 Inv-loop μ-loop
-refused-requires-2 c κs = search needs
-
-returns-3 : tie.Need-returns-3 Inv-loop μ-loop
-returns-3 c = search bad
-
-enum-known-name : tie.Need-enum-known-name Inv-loop μ-loop
-enum-known-name c = search needs
+returns-2 c = search bad
 
 slot-of-requires : tie.Need-slot-of-requires Inv-loop μ-loop
-slot-of-requires c κs = (search needs, search name-after, search value-before, search end-within, search value-folded)
+slot-of-requires c κs = (search name-after, search value-after, search end-after, search end-within, search needs, search value-folded)
 
 add-requires : tie.Need-add-requires Inv-loop μ-loop
 add-requires c κs = search needs
@@ -73,11 +67,11 @@ loop-less c = search next-less
 loop-again : tie.Need-loop-again Inv-loop μ-loop
 loop-again c = (search next-within, search next-few, search next)
 
-refused-requires-3 : tie.Need-refused-requires-3 Inv-loop μ-loop
-refused-requires-3 c κs = search needs
+refused-requires-2 : tie.Need-refused-requires-2 Inv-loop μ-loop
+refused-requires-2 c κs = search needs
 
-returns-4 : tie.Need-returns-4 Inv-loop μ-loop
-returns-4 c = search over
+returns-3 : tie.Need-returns-3 Inv-loop μ-loop
+returns-3 c = search over
 
 pub fields-spec : {M : Type 1} → statement M
 fields-spec =
@@ -88,22 +82,20 @@ fields-spec =
     add-at
     add-at-2
     loop-holds
-    rest-requires
     is-empty-line-requires
     add-rest
+    closed-requires
     returns
+    read-requires
+    enum-known-name
+    enum-told
     refused-requires
     returns-2
-    read-requires
-    enum-told
-    refused-requires-2
-    returns-3
-    enum-known-name
     slot-of-requires
     add-requires
     add-number
     add-at-3
     loop-less
     loop-again
-    refused-requires-3
-    returns-4)
+    refused-requires-2
+    returns-3)

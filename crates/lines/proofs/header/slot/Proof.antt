@@ -16,11 +16,17 @@ add-start c = search needs
 returns-2 : tie.Need-returns-2
 returns-2 c = (search plain-slot, search needs, search needs)
 
-rest-requires : tie.Need-rest-requires
-rest-requires c κs = search needs
+add-last : tie.Need-add-last
+add-last c = search needs
 
-first-requires : tie.Need-first-requires
-first-requires c κs = search needs
+sub-has-break : tie.Need-sub-has-break
+sub-has-break c = search needs
+
+part-has-break-start : tie.Need-part-has-break-start
+part-has-break-start c = search needs
+
+part-has-break-end : tie.Need-part-has-break-end
+part-has-break-end c = search needs
 
 has-break-requires : tie.Need-has-break-requires
 has-break-requires c κs = search needs
@@ -36,7 +42,9 @@ slot-spec =
     returns
     add-start
     returns-2
-    rest-requires
-    first-requires
+    add-last
+    sub-has-break
+    part-has-break-start
+    part-has-break-end
     has-break-requires
     returns-3)

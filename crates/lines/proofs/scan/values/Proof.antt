@@ -5,11 +5,11 @@ use borrow.Author.Needs.{needs}
 use Rattle.lines.proofs.scan.values.Statement.{statement}
 use Rattle.lines.proofs.scan.values.Tie as tie
 
-run-requires : tie.Need-run-requires
-run-requires c κs = search needs
+run-at-requires : tie.Need-run-at-requires
+run-at-requires c κs = search needs
 
 returns : tie.Need-returns
 returns c = search (of-class 128 value-class, needs)
 
 pub values-spec : {M : Type 1} → statement M
-values-spec = tie.close (tie.spec run-requires returns)
+values-spec = tie.close (tie.spec run-at-requires returns)

@@ -5,11 +5,11 @@ use borrow.Author.Needs.{needs}
 use Rattle.lines.proofs.scan.visible.Statement.{statement}
 use Rattle.lines.proofs.scan.visible.Tie as tie
 
-run-requires : tie.Need-run-requires
-run-requires c κs = search needs
+run-at-requires : tie.Need-run-at-requires
+run-at-requires c κs = search needs
 
 returns : tie.Need-returns
-returns c = search (of-class 256 visible-class, needs)
+returns c = search (of-class 8 visible-class, needs)
 
 pub visible-spec : {M : Type 1} → statement M
-visible-spec = tie.close (tie.spec run-requires returns)
+visible-spec = tie.close (tie.spec run-at-requires returns)

@@ -4,11 +4,17 @@ use borrow.Author.Needs.{needs}
 use Rattle.lines.proofs.value.trimmed.Statement.{statement}
 use Rattle.lines.proofs.value.trimmed.Tie as tie
 
-gaps-requires : tie.Need-gaps-requires
-gaps-requires c κs = search needs
+start-of-requires : tie.Need-start-of-requires
+start-of-requires c κs = search needs
 
-rest-requires : tie.Need-rest-requires
-rest-requires c κs = search needs
+sub-end-of : tie.Need-sub-end-of
+sub-end-of c = search needs
+
+part-end-of-start : tie.Need-part-end-of-start
+part-end-of-start c = search needs
+
+part-end-of-end : tie.Need-part-end-of-end
+part-end-of-end c = search needs
 
 end-of-requires : tie.Need-end-of-requires
 end-of-requires c κs = search needs
@@ -20,4 +26,13 @@ returns-2 : tie.Need-returns-2
 returns-2 c = search (a-part, needs)
 
 pub trimmed-spec : {M : Type 1} → statement M
-trimmed-spec = tie.close (tie.spec gaps-requires rest-requires end-of-requires returns returns-2)
+trimmed-spec =
+    tie.close
+    (tie.spec
+    start-of-requires
+    sub-end-of
+    part-end-of-start
+    part-end-of-end
+    end-of-requires
+    returns
+    returns-2)
