@@ -131,12 +131,9 @@ module _ (m : List ℕ) {kept : ℕ} (d : Identified m kept) {b : Bool} (f : b �
 
 -- where its number stands in the message, from where it stands in the canonical form that the buffer holds
 module _ (m : List ℕ) (q : Span) (formed : isIdentity (folded 0 (part q m)) ≡ true) (short : length (part q m) ≤ 8192)
-    {w v : List ℕ} (hw : w ≡ drop (q .start) m) (hv : v ≡ take (q .len) w)
+    {v : List ℕ} (value-part : v ≡ take (q .len) (drop (q .start) m))
     {z : List ℕ} (room : length z ≡ 8192) {n : ℕ} {d : List ℕ} (put : Wrote z 0 (folded 0 v) n d) {s : List ℕ} (cut : s ≡ take n d)
   where
-    value-part : v ≡ part q m
-    value-part = hv ∙ rw hw
-
     canonical-here : s ≡ folded 0 (part q m)
     canonical-here =
         let l : length (folded 0 v) ≤ length z = rw value-part (omega (arith, folded-le (part q m))) in
@@ -149,19 +146,19 @@ module _ (m : List ℕ) (q : Span) (formed : isIdentity (folded 0 (part q m)) �
 
 -- ---- the part itself
 
-module _ (m t : List ℕ) {x : CallingAt} (e : x ≡ callingAt m t) {w v : List ℕ} where
-  module _ (f : x .«from_trunk» ≡ true) (hw : w ≡ drop (x .start) t) (hv : v ≡ take (x .len) w) where
+module _ (m t : List ℕ) {x : CallingAt} (e : x ≡ callingAt m t) {v : List ℕ} where
+  module _ (f : x .«from_trunk» ≡ true) (hv : v ≡ take (x .len) (drop (x .start) t)) where
     pub trunk-part : v ≡ callingPart m t
     unfolding callingPart
-    trunk-part = rw (← e, f, hv, hw)
+    trunk-part = rw (← e, f, hv)
 
     pub trunk-number : v ≡ callingNumber m t
     trunk-number = trunk-part ∙ calling-part m t
 
-  module _ (f : x .«from_trunk» ≡ false) (hw : w ≡ drop (x .start) m) (hv : v ≡ take (x .len) w) where
+  module _ (f : x .«from_trunk» ≡ false) (hv : v ≡ take (x .len) (drop (x .start) m)) where
     pub message-part : v ≡ callingPart m t
     unfolding callingPart
-    message-part = rw (← e, f, hv, hw)
+    message-part = rw (← e, f, hv)
 
     pub message-number : v ≡ callingNumber m t
     message-number = message-part ∙ calling-part m t

@@ -213,14 +213,14 @@ fn caller_at(message: &[u8], p: sip::Span) -> sip::CallingAt
     ensures { λ r. ⌜ r ≡ callerAt (now (message .entry)) p (folded 0 (part p (now (message .entry)))) ⌝ }
 {
     let start = p.start;
-    let value = octets::first(octets::rest(message, start), p.len);
+    let value = octets::part(message, start, p.len);
     let mut scratch = [0u8; 8192];
     let len = emit::put_folded(&mut scratch, 0, value);
     let number = values::identity(octets::first(&scratch, len));
-    let at = emit::unfolded_at(value, number.start);
+    let place = start + emit::unfolded_at(value, number.start);
     sip::CallingAt {
         from_trunk: false,
-        start: start + at,
+        start: place,
         len: number.len,
     }
 }
@@ -284,7 +284,7 @@ pub fn calling_number<'a>(message: &'a [u8], trunk: &'a [u8]) -> &'a [u8]
 {
     let p = calling_at(message, trunk);
     if p.from_trunk {
-        return octets::first(octets::rest(trunk, p.start), p.len);
+        return octets::part(trunk, p.start, p.len);
     }
-    octets::first(octets::rest(message, p.start), p.len)
+    octets::part(message, p.start, p.len)
 }

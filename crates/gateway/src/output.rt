@@ -22,7 +22,7 @@ ghost use Rattle.gateway.specs.Sent.{lineOf};
 fn value_of(message: &[u8], s: Slot) -> &[u8]
     ensures { λ r. ⌜ (now r ≡ take (s .len) (drop (s .start) (now (message .entry)))) × (length (now r) ≤ length (now (message .entry))) ⌝ }
 {
-    octets::first(octets::rest(message, s.start), s.len)
+    octets::part(message, s.start, s.len)
 }
 
 // The caller is masked, and n is the number of a field that tells of the caller.
@@ -135,11 +135,7 @@ fn put_folded_tag(out: &mut [u8], at: usize, v: &[u8], tag: Span) -> usize
     let mut scratch = [0u8; 8192];
     let len = emit::put_folded(&mut scratch, 0, v);
     let text = octets::first(&scratch, len);
-    emit::put(
-        out,
-        at,
-        octets::first(octets::rest(text, tag.start), tag.len),
-    )
+    emit::put(out, at, octets::part(text, tag.start, tag.len))
 }
 
 // From without the caller. It keeps its tag.
@@ -162,11 +158,7 @@ fn put_masked_from(out: &mut [u8], at: usize, v: &[u8], broken: bool, tag: Span)
     if broken {
         return put_folded_tag(out, next, v, tag);
     }
-    emit::put(
-        out,
-        next,
-        octets::first(octets::rest(v, tag.start), tag.len),
-    )
+    emit::put(out, next, octets::part(v, tag.start, tag.len))
 }
 
 // A value as it goes out.
@@ -265,5 +257,5 @@ pub(crate) fn put_body(out: &mut [u8], at: usize, message: &[u8], rest: usize, b
         ⌝ }
 {
     let next = emit::put(out, at, b"\r\n");
-    emit::put(out, next, octets::first(octets::rest(message, rest), body))
+    emit::put(out, next, octets::part(message, rest, body))
 }

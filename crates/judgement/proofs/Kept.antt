@@ -65,10 +65,10 @@ module _ (method m : List ℕ) (kept : ℕ) (t : Tally) (s : Slot) {b : Bool} (e
     pub low : kept < 2 ^ 32 → s .number < 32
     low h = has-low 32 kept (s .number) h held
 
-    pub taken : {x v : List ℕ} → x ≡ drop (s .start) m → v ≡ take (s .len) x → {f : Finding}
+    pub taken : {v : List ℕ} → v ≡ take (s .len) (drop (s .start) m) → {f : Finding}
         → f ≡ finding method (s .number) (cond (s .folded) (folded 0 v) v) → {r : Tally} → r ≡ noted t (s .number) f → r ≡ takenUp method kept m t s
     unfolding takenUp valueAt
-    taken hx hv d h = rw (held, ← hx, ← hv, ← d) h
+    taken hv d h = rw (held, ← hv, ← d) h
 
 pub tags-bound : (t : Tally) (n : ℕ) (f : Finding) {r : Tally} → r ≡ noted t n f → f .len ≤ 108191 → r .tags ≤ t .tags + 108191
 tags-bound t n f e l = rw e (omega (arith, tags-grow t n f))

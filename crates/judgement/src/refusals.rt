@@ -203,7 +203,7 @@ fn request_uri(message: &[u8], m: Message) -> RequestUri
     ensures { λ r. ⌜ r ≡ requestUri (take (m .uri) (drop (m .method + 1) (now (message .entry)))) ⌝ }
 {
     let start = m.method + 1;
-    values::request_uri(octets::first(octets::rest(message, start), m.uri))
+    values::request_uri(octets::part(message, start, m.uri))
 }
 
 // A request of that column.

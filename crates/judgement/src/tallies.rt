@@ -222,7 +222,7 @@ fn take_up(message: &[u8], method: &[u8], kept: u32, t: Tally, s: Slot) -> Tally
     if !sets::in_set(kept, n) {
         return t;
     }
-    let v = octets::first(octets::rest(message, s.start), s.len);
+    let v = octets::part(message, s.start, s.len);
     note(t, n, finding_in(method, n, v, s.folded))
 }
 

@@ -4,11 +4,8 @@ use borrow.Author.Needs.{needs}
 use Rattle.gateway.proofs.caller_at.Statement.{statement}
 use Rattle.gateway.proofs.caller_at.Tie as tie
 
-rest-requires : tie.Need-rest-requires
-rest-requires c κs = search needs
-
-first-requires : tie.Need-first-requires
-first-requires c κs = search needs
+part-requires : tie.Need-part-requires
+part-requires c κs = search needs
 
 slice-aggregate-put-folded : tie.Need-slice-aggregate-put-folded
 slice-aggregate-put-folded c = search needs
@@ -19,8 +16,8 @@ put-folded-requires c κs = search needs
 slice-aggregate-first : tie.Need-slice-aggregate-first
 slice-aggregate-first c = search needs
 
-first-requires-2 : tie.Need-first-requires-2
-first-requires-2 c κs = search needs
+first-requires : tie.Need-first-requires
+first-requires c κs = search needs
 
 identity-requires : tie.Need-identity-requires
 identity-requires c κs = search needs
@@ -28,8 +25,8 @@ identity-requires c κs = search needs
 unfolded-at-requires : tie.Need-unfolded-at-requires
 unfolded-at-requires c κs = search needs
 
-add-t15 : tie.Need-add-t15
-add-t15 c = search needs
+add-place : tie.Need-add-place
+add-place c = search needs
 
 returns : tie.Need-returns
 returns c = search (caller-here, needs)
@@ -38,13 +35,12 @@ pub caller-at-spec : {M : Type 1} → statement M
 caller-at-spec =
     tie.close
     (tie.spec
-    rest-requires
-    first-requires
+    part-requires
     slice-aggregate-put-folded
     put-folded-requires
     slice-aggregate-first
-    first-requires-2
+    first-requires
     identity-requires
     unfolded-at-requires
-    add-t15
+    add-place
     returns)

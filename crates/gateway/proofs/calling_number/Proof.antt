@@ -7,20 +7,14 @@ use Rattle.gateway.proofs.calling_number.Tie as tie
 calling-at-requires : tie.Need-calling-at-requires
 calling-at-requires c κs = search needs
 
-rest-requires : tie.Need-rest-requires
-rest-requires c κs = search needs
-
-first-requires : tie.Need-first-requires
-first-requires c κs = search needs
+part-requires : tie.Need-part-requires
+part-requires c κs = search needs
 
 returns : tie.Need-returns
 returns c = search (trunk-part, trunk-number, needs)
 
-rest-requires-2 : tie.Need-rest-requires-2
-rest-requires-2 c κs = search needs
-
-first-requires-2 : tie.Need-first-requires-2
-first-requires-2 c κs = search needs
+part-requires-2 : tie.Need-part-requires-2
+part-requires-2 c κs = search needs
 
 returns-2 : tie.Need-returns-2
 returns-2 c = search (message-part, message-number, needs)
@@ -30,9 +24,7 @@ calling-number-spec =
     tie.close
     (tie.spec
     calling-at-requires
-    rest-requires
-    first-requires
+    part-requires
     returns
-    rest-requires-2
-    first-requires-2
+    part-requires-2
     returns-2)

@@ -1,5 +1,5 @@
 -- The two parts are written one after the other.
-use mathlib.Core.Path.{_≡_, _∙_}
+use mathlib.Core.Path.{_≡_}
 use mathlib.Core.List.{List, _++_}
 use Prim.Native.Nat.{ℕ, _+_, _≤_}
 use lib.ListN.{length, take, drop}
@@ -10,10 +10,10 @@ use Rattle.emit.proofs.Laws.{then, wrote-as}
 use Rattle.gateway.proofs.output.put_body.Statement.{statement}
 use Rattle.gateway.proofs.output.put_body.Tie as tie
 
-ended : (m : List ℕ) (from size at : ℕ) {a b : List ℕ} {d d₁ d₂ : List ℕ} {n r : ℕ} → a ≡ drop from m → b ≡ take size a
+ended : (m : List ℕ) (from size at : ℕ) {b : List ℕ} {d d₁ d₂ : List ℕ} {n r : ℕ} → b ≡ take size (drop from m)
     → Wrote d at crlf n d₁ → Wrote d₁ n b r d₂
     → at + (2 + length (take size (drop from m))) ≤ length d → Wrote d at (crlf ++ take size (drop from m)) r d₂
-ended m from size at e f p q h = then p (wrote-as q (take size (drop from m)) (f ∙ rw e)) h
+ended m from size at e p q h = then p (wrote-as q (take size (drop from m)) e) h
 
 slice-aggregate-put : tie.Need-slice-aggregate-put
 slice-aggregate-put c = search needs
@@ -21,11 +21,8 @@ slice-aggregate-put c = search needs
 put-requires : tie.Need-put-requires
 put-requires c κs = search needs
 
-rest-requires : tie.Need-rest-requires
-rest-requires c κs = search needs
-
-first-requires : tie.Need-first-requires
-first-requires c κs = search needs
+part-requires : tie.Need-part-requires
+part-requires c κs = search needs
 
 put-requires-2 : tie.Need-put-requires-2
 put-requires-2 c κs = search needs
@@ -42,8 +39,7 @@ put-body-spec =
     (tie.spec
     slice-aggregate-put
     put-requires
-    rest-requires
-    first-requires
+    part-requires
     put-requires-2
     same-length
     returns)

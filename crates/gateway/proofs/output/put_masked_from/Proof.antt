@@ -25,9 +25,9 @@ module _ (tag : Span) (v : List ℕ) (b : Bool) {d d₁ d₂ : List ℕ} {at n r
   broken : b ≡ true → Wrote d₁ n (part tag (folded 0 v)) r d₂ → Wrote d at (anonymous ++ part tag (cond b (folded 0 v) v)) r d₂
   broken e q = both (rw e) q
 
-  whole : b ≡ false → {x y : List ℕ} → x ≡ drop (tag .start) v → y ≡ take (tag .len) x → Wrote d₁ n y r d₂
+  whole : b ≡ false → {y : List ℕ} → y ≡ take (tag .len) (drop (tag .start) v) → Wrote d₁ n y r d₂
       → Wrote d at (anonymous ++ part tag (cond b (folded 0 v) v)) r d₂
-  whole e f g q = both (g ∙ rw (e, f)) q
+  whole e g q = both (g ∙ rw e) q
 
 slice-aggregate-put : tie.Need-slice-aggregate-put
 slice-aggregate-put c = search needs
@@ -45,11 +45,8 @@ returns : tie.Need-returns
 unfolding anonymous text
 returns c = search broken
 
-rest-requires : tie.Need-rest-requires
-rest-requires c κs = search needs
-
-first-requires : tie.Need-first-requires
-first-requires c κs = search needs
+part-requires : tie.Need-part-requires
+part-requires c κs = search needs
 
 put-requires-2 : tie.Need-put-requires-2
 put-requires-2 c κs = search needs
@@ -70,8 +67,7 @@ put-masked-from-spec =
     put-folded-tag-requires
     same-length
     returns
-    rest-requires
-    first-requires
+    part-requires
     put-requires-2
     same-length-2
     returns-2)

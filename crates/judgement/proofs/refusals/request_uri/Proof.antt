@@ -9,18 +9,15 @@ use Rattle.values.specs.Answers.{requestUri}
 use Rattle.judgement.proofs.refusals.request_uri.Statement.{statement}
 use Rattle.judgement.proofs.refusals.request_uri.Tie as tie
 
-whole : (m : List ℕ) (uri method : ℕ) {s : ℕ} → s ≡ method + 1 → {t : List ℕ} → t ≡ drop s m → {v : List ℕ} → v ≡ take uri t
+whole : (m : List ℕ) (uri method : ℕ) {s : ℕ} → s ≡ method + 1 → {v : List ℕ} → v ≡ take uri (drop s m)
     → {u : RequestUri} → u ≡ requestUri v → u ≡ requestUri (take uri (drop (method + 1) m))
-whole m uri method hs ht hv hu = rw (hu, hv, ht, hs)
+whole m uri method hs hv hu = rw (hu, hv, hs)
 
 add-start : tie.Need-add-start
 add-start c = search needs
 
-rest-requires : tie.Need-rest-requires
-rest-requires c κs = search needs
-
-first-requires : tie.Need-first-requires
-first-requires c κs = search needs
+part-requires : tie.Need-part-requires
+part-requires c κs = search needs
 
 request-uri-requires : tie.Need-request-uri-requires
 request-uri-requires c κs = search needs
@@ -29,4 +26,4 @@ returns : tie.Need-returns
 returns c = search whole
 
 pub request-uri-spec : {M : Type 1} → statement M
-request-uri-spec = tie.close (tie.spec add-start rest-requires first-requires request-uri-requires returns)
+request-uri-spec = tie.close (tie.spec add-start part-requires request-uri-requires returns)

@@ -10,11 +10,8 @@ in-set-requires c κs = search needs
 returns : tie.Need-returns
 returns c = search (skipped, needs)
 
-rest-requires : tie.Need-rest-requires
-rest-requires c κs = search needs
-
-first-requires : tie.Need-first-requires
-first-requires c κs = search needs
+part-requires : tie.Need-part-requires
+part-requires c κs = search needs
 
 finding-in-requires : tie.Need-finding-in-requires
 finding-in-requires c κs = search needs
@@ -31,8 +28,7 @@ take-up-spec =
     (tie.spec
     in-set-requires
     returns
-    rest-requires
-    first-requires
+    part-requires
     finding-in-requires
     note-requires
     returns-2)
