@@ -45,10 +45,6 @@ orElse a b = cond (eqb a 0) b a
 abbrev pub isFirst : Tally → ℕ → ℕ → Bool
 isFirst t k n = eqb n k && not (has (t .seen) k)
 
--- a field of number n says more than that it is there and well formed
-unfoldable pub tellsMore : ℕ → Bool
-tellsMore n = eqb n 2 || (eqb n 3 || (eqb n 4 || (eqb n 8 || (eqb n 14 || eqb n 16))))
-
 -- the tally with a field of number n in which f was found
 unfoldable pub noted : Tally → ℕ → Finding → Tally
 noted t n f =
@@ -63,6 +59,53 @@ noted t n f =
       tags = cond (eqb n 14) (t .tags + f .len) (t .tags);
       lacking = cond (eqb n 14) (orElse (t .lacking) (cond (eqb (f .start) 0) 0 (t .tags + f .start))) (t .lacking);
       tag = cond (isFirst t 3 n) (record { start = f .start; len = f .len }) (t .tag);
+    }
+
+-- the same in three steps: what is noted of every field, what each Require says, and what the first of the others says
+
+unfoldable pub counted : Tally → ℕ → Bool → Tally
+counted t n good =
+    record {
+      seen = bitOr (t .seen) (2 ^ n);
+      again = orElse (t .again) (cond (once n && has (t .seen) n) n 0);
+      malformed = orElse (t .malformed) (cond good 0 n);
+      hops = t .hops;
+      tagged = t .tagged;
+      withheld = t .withheld;
+      length = t .length;
+      tags = t .tags;
+      lacking = t .lacking;
+      tag = t .tag;
+    }
+
+unfoldable pub required : Tally → Finding → Tally
+required t f =
+    record {
+      seen = t .seen;
+      again = t .again;
+      malformed = t .malformed;
+      hops = t .hops;
+      tagged = t .tagged;
+      withheld = t .withheld;
+      length = t .length;
+      tags = t .tags + f .len;
+      lacking = orElse (t .lacking) (cond (eqb (f .start) 0) 0 (t .tags + f .start));
+      tag = t .tag;
+    }
+
+unfoldable pub said : Tally → ℕ → Finding → Tally
+said t n f =
+    record {
+      seen = t .seen;
+      again = t .again;
+      malformed = t .malformed;
+      hops = cond (eqb n 2) (f .len) (t .hops);
+      tagged = cond (eqb n 4) (f .flag) (t .tagged);
+      withheld = cond (eqb n 16) (f .flag) (t .withheld);
+      length = cond (eqb n 8) (f .len) (t .length);
+      tags = t .tags;
+      lacking = t .lacking;
+      tag = cond (eqb n 3) (record { start = f .start; len = f .len }) (t .tag);
     }
 
 abbrev pub noTally : Tally

@@ -6,7 +6,7 @@ use super::sets;
 use lines::Slot;
 use sip::Span;
 ghost use mathlib.Core.Path.{_≡_};
-ghost use mathlib.Core.Bool.{false, not, cond, _&&_};
+ghost use mathlib.Core.Bool.{cond, _&&_};
 ghost use Prim.Native.Nat.{_+_, _≤_, _<_, _^_};
 ghost use lib.Dec.{eqb};
 ghost use lib.ListN.{length};
@@ -14,7 +14,7 @@ ghost use Rattle.sip.specs.Lines.{folded};
 ghost use Rattle.sip.specs.Profile.{once};
 ghost use Rattle.judgement.specs.Sets.{has};
 ghost use Rattle.judgement.specs.Entries.{entriesFrom};
-ghost use Rattle.judgement.specs.Tallies.{finding, orElse, tellsMore, noted, noTally, tallied};
+ghost use Rattle.judgement.specs.Tallies.{finding, orElse, noted, counted, required, said, noTally, tallied};
 ghost use Rattle.judgement.specs.Judged.{takenUp};
 
 // The number of the first field that came again.
@@ -46,55 +46,23 @@ fn malformed_of(malformed: usize, n: usize, good: bool) -> usize
     n
 }
 
-// The field of number n that comes now is the first of number k.
-fn is_first(seen: u32, k: usize, n: usize) -> bool
-    ensures { λ r. ⌜ r ≡ (eqb n k && not (has seen k)) ⌝ }
+// Of every field it is noted that it is there, whether it came before, and whether it is malformed.
+fn count(t: Tally, n: usize, good: bool) -> Tally
+    requires { ⌜ n < 32 ⌝ }
+    ensures { λ r. ⌜ r ≡ counted t n good ⌝ }
 {
-    if n != k {
-        return false;
-    }
-    !sets::in_set(seen, k)
-}
-
-// What the first field of number k says, yes or no.
-fn flag_of(seen: u32, k: usize, n: usize, says: bool, said: bool) -> bool
-    ensures { λ r. ⌜ r ≡ cond (eqb n k && not (has seen k)) says said ⌝ }
-{
-    if is_first(seen, k, n) {
-        return says;
-    }
-    said
-}
-
-// And a number.
-fn number_of(seen: u32, k: usize, n: usize, says: usize, said: usize) -> usize
-    ensures { λ r. ⌜ r ≡ cond (eqb n k && not (has seen k)) says said ⌝ }
-{
-    if is_first(seen, k, n) {
-        return says;
-    }
-    said
-}
-
-// How many tags are required.
-fn tags_of(tags: usize, n: usize, more: usize) -> usize
-    requires { ⌜ tags + more < 2 ^ 32 ⌝ }
-    ensures { λ r. ⌜ r ≡ cond (eqb n 14) (tags + more) tags ⌝ }
-{
-    if n != 14 {
-        return tags;
-    }
-    tags + more
+    let mut r = t;
+    r.seen = sets::with_number(t.seen, n);
+    r.again = again_of(t.again, t.seen, n);
+    r.malformed = malformed_of(t.malformed, n, good);
+    r
 }
 
 // The place of the first tag that we lack.
-fn lacking_of(lacking: usize, tags: usize, n: usize, place: usize) -> usize
+fn lacking_of(lacking: usize, tags: usize, place: usize) -> usize
     requires { ⌜ tags + place < 2 ^ 32 ⌝ }
-    ensures { λ r. ⌜ r ≡ cond (eqb n 14) (orElse lacking (cond (eqb place 0) 0 (tags + place))) lacking ⌝ }
+    ensures { λ r. ⌜ r ≡ orElse lacking (cond (eqb place 0) 0 (tags + place)) ⌝ }
 {
-    if n != 14 {
-        return lacking;
-    }
     if lacking != 0 {
         return lacking;
     }
@@ -104,68 +72,47 @@ fn lacking_of(lacking: usize, tags: usize, n: usize, place: usize) -> usize
     tags + place
 }
 
-// Where the first From's tag stands.
-fn tag_of(seen: u32, n: usize, says: Span, said: Span) -> Span
-    ensures { λ r. ⌜ r ≡ cond (eqb n 3 && not (has seen 3)) says said ⌝ }
+// What each Require says.
+fn require(t: Tally, f: Finding) -> Tally
+    requires { ⌜ (t .tags + f .len < 2 ^ 32) × (t .tags + f .start < 2 ^ 32) ⌝ }
+    ensures { λ r. ⌜ r ≡ required t f ⌝ }
 {
-    if is_first(seen, 3, n) {
-        return says;
-    }
-    said
+    let mut r = t;
+    r.tags = t.tags + f.len;
+    r.lacking = lacking_of(t.lacking, t.tags, f.start);
+    r
 }
 
-// Max-Forwards, From, To, Content-Length, Require and Privacy say more than that they are there and well formed.
-fn tells(n: usize) -> bool
-    ensures { λ r. ⌜ r ≡ tellsMore n ⌝ }
+// What the first Max-Forwards, From, To, Content-Length and Privacy say.
+fn say(t: Tally, n: usize, f: Finding) -> Tally
+    ensures { λ r. ⌜ r ≡ said t n f ⌝ }
 {
-    sets::is_one_of(n, 2, 3, 4, 8, 14, 16)
-}
-
-// The tally with a field that says no more.
-fn note_plain(t: Tally, n: usize, f: Finding) -> Tally
-    requires { ⌜ (n < 32) × (tellsMore n ≡ false) ⌝ }
-    ensures { λ r. ⌜ r ≡ noted t n f ⌝ }
-{
-    let seen = t.seen;
-    let tag = t.tag;
-    Tally {
-        seen: sets::with_number(seen, n),
-        again: again_of(t.again, seen, n),
-        malformed: malformed_of(t.malformed, n, f.good),
-        hops: t.hops,
-        tagged: t.tagged,
-        withheld: t.withheld,
-        length: t.length,
-        tags: t.tags,
-        lacking: t.lacking,
-        tag,
+    let mut r = t;
+    if n == 2 {
+        r.hops = f.len;
+        return r;
     }
-}
-
-// The tally with a field that says more.
-fn note_telling(t: Tally, n: usize, f: Finding) -> Tally
-    requires { ⌜ (n < 32) × (t .tags + f .len < 2 ^ 32) × (t .tags + f .start < 2 ^ 32) ⌝ }
-    ensures { λ r. ⌜ r ≡ noted t n f ⌝ }
-{
-    let seen = t.seen;
-    let said = t.tag;
-    let says = Span {
-        start: f.start,
-        len: f.len,
-    };
-    let tag = tag_of(seen, n, says, said);
-    Tally {
-        seen: sets::with_number(seen, n),
-        again: again_of(t.again, seen, n),
-        malformed: malformed_of(t.malformed, n, f.good),
-        hops: number_of(seen, 2, n, f.len, t.hops),
-        tagged: flag_of(seen, 4, n, f.flag, t.tagged),
-        withheld: flag_of(seen, 16, n, f.flag, t.withheld),
-        length: number_of(seen, 8, n, f.len, t.length),
-        tags: tags_of(t.tags, n, f.len),
-        lacking: lacking_of(t.lacking, t.tags, n, f.start),
-        tag,
+    if n == 3 {
+        let tag = Span {
+            start: f.start,
+            len: f.len,
+        };
+        r.tag = tag;
+        return r;
     }
+    if n == 4 {
+        r.tagged = f.flag;
+        return r;
+    }
+    if n == 8 {
+        r.length = f.len;
+        return r;
+    }
+    if n == 16 {
+        r.withheld = f.flag;
+        return r;
+    }
+    r
 }
 
 // The tally with one field more.
@@ -173,10 +120,14 @@ fn note(t: Tally, n: usize, f: Finding) -> Tally
     requires { ⌜ (n < 32) × (t .tags + f .len < 2 ^ 32) × (t .tags + f .start < 2 ^ 32) ⌝ }
     ensures { λ r. ⌜ r ≡ noted t n f ⌝ }
 {
-    if tells(n) {
-        return note_telling(t, n, f);
+    let there = count(t, n, f.good);
+    if n == 14 {
+        return require(there, f);
     }
-    note_plain(t, n, f)
+    if sets::in_set(t.seen, n) {
+        return there;
+    }
+    say(there, n, f)
 }
 
 // What is found in a value of at most 256 bytes with a line break in it.
