@@ -49,8 +49,7 @@ pub fn is_cseq(method: &[u8], v: &[u8]) -> bool
 pub fn is_call_id(v: &[u8]) -> bool
     ensures { λ r. ⌜ r ≡ isCallId (now (v .entry)) ⌝ }
 {
-    let table = octets::class_table();
-    call::call_id(&table, v)
+    call::call_id(v)
 }
 
 pub fn uri_at(s: &[u8]) -> sip::UriAt

@@ -4,7 +4,7 @@ ghost use mathlib.Core.Bool.{not, _||_};
 ghost use Prim.Native.Nat.{ℕ, _-_, _≤_};
 ghost use lib.Dec.{eqb};
 ghost use lib.ListN.{length, drop};
-ghost use Rattle.octets.specs.Classes.{classTable, isToken, isBlank, isDigit, isHost, isVisible, isUser, isParameter};
+ghost use Rattle.octets.specs.Classes.{classTable, isToken, isBlank, isDigit, isHost, isUser, isParameter};
 ghost use Rattle.octets.specs.Scans.{run, runEscaped};
 ghost use Rattle.sip.specs.Values.{sign};
 
@@ -30,13 +30,6 @@ pub(crate) fn hosts(table: &[u8; 256], s: &[u8]) -> usize
     ensures { λ r. ⌜ (r ≡ run isHost (now (s .entry))) × (r ≤ length (now (s .entry))) ⌝ }
 {
     octets::run(table, s, octets::HOST)
-}
-
-pub(crate) fn visible(table: &[u8; 256], s: &[u8]) -> usize
-    requires { ⌜ now table ≡ classTable ⌝ }
-    ensures { λ r. ⌜ (r ≡ run isVisible (now (s .entry))) × (r ≤ length (now (s .entry))) ⌝ }
-{
-    octets::run(table, s, octets::VISIBLE)
 }
 
 // Tokens and blanks, in any order.
