@@ -7,10 +7,10 @@ use native.Mathlib.Omega.{arith}
 use lib.ListN.{length, take, drop, getD, drop-of-length-le}
 use lib.Seq.{drop-drop}
 use Rattle.octets.specs.Classes.{isBreak, isGap}
-use Rattle.octets.specs.Scans.{run}
+use Rattle.octets.specs.Scans.{run, any}
 use Rattle.octets.proofs.Places.{drop1}
 use Rattle.octets.proofs.Runs.{run-at}
-use Rattle.sip.specs.Lines.{any, joined, folded, unfoldedAt}
+use Rattle.sip.specs.Lines.{joined, folded, unfoldedAt}
 use Rattle.sip.proofs.Canonical.{folded-byte, folded-run}
 use Rattle.sip.proofs.Unfolded.{from-in, from-past, unfolded-first, unfolded-next, unfolded-run}
 

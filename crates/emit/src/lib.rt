@@ -5,8 +5,8 @@ ghost use Prim.Native.Nat.{_+_, _%_, _≤_, _<_};
 ghost use lib.Dec.{leb};
 ghost use lib.ListN.{length, take, drop};
 ghost use Rattle.octets.specs.Classes.{isBreak, isGap};
-ghost use Rattle.octets.specs.Scans.{run};
-ghost use Rattle.sip.specs.Lines.{any, joined, folded, unfoldedAt};
+ghost use Rattle.octets.specs.Scans.{run, any};
+ghost use Rattle.sip.specs.Lines.{joined, folded, unfoldedAt};
 ghost use Rattle.sip.specs.Output.{numeral};
 ghost use Rattle.emit.specs.Put.{Wrote};
 
@@ -124,59 +124,11 @@ pub fn put_number(out: &mut [u8], at: usize, n: usize) -> usize
     at + size
 }
 
-// A space, a tab or a byte of a line break.
-fn is_gap(b: u8) -> bool
-    ensures { λ r. ⌜ r ≡ isGap b ⌝ }
-{
-    if b == 32 {
-        return true;
-    }
-    if b == 9 {
-        return true;
-    }
-    if b == 13 {
-        return true;
-    }
-    b == 10
-}
-
-// Where the run of gap bytes ends that goes on at a place.
-fn gap_end(s: &[u8], at: usize) -> usize
-    requires { ⌜ at ≤ length (now s) ⌝ }
-    ensures { λ r. ⌜ (r ≡ at + run isGap (drop at (now (s .entry)))) × (r ≤ length (now (s .entry))) ⌝ }
-{
-    let mut i = at;
-    while i < s.len() {
-        if !is_gap(s[i]) {
-            return i;
-        }
-        i += 1;
-    }
-    i
-}
-
-// A byte of a line break is among them.
-fn has_break(g: &[u8]) -> bool
-    ensures { λ r. ⌜ r ≡ any isBreak (now (g .entry)) ⌝ }
-{
-    let mut i = 0;
-    while i < g.len() {
-        if g[i] == 13 {
-            return true;
-        }
-        if g[i] == 10 {
-            return true;
-        }
-        i += 1;
-    }
-    false
-}
-
 // How many bytes a run of gap bytes has once it is joined.
 fn joined_len(g: &[u8]) -> usize
     ensures { λ r. ⌜ (r ≡ length (joined (now (g .entry)))) × (r ≤ length (now (g .entry))) ⌝ }
 {
-    if has_break(g) {
+    if octets::has_break(g) {
         return 1;
     }
     g.len()
@@ -189,9 +141,9 @@ pub fn folded_len(v: &[u8]) -> usize
     let mut size = 0;
     let mut i = 0;
     while i < v.len() {
-        if is_gap(v[i]) {
+        if octets::is_gap(v[i]) {
             let next = i + 1;
-            let end = gap_end(v, next);
+            let end = octets::gap_end(v, next);
             size += joined_len(&v[i..end]);
             i = end;
         } else {
@@ -209,9 +161,9 @@ pub fn unfolded_at(v: &[u8], k: usize) -> usize
     let mut ahead = k;
     let mut i = 0;
     while i < v.len() {
-        if is_gap(v[i]) {
+        if octets::is_gap(v[i]) {
             let next = i + 1;
-            let end = gap_end(v, next);
+            let end = octets::gap_end(v, next);
             let size = joined_len(&v[i..end]);
             if ahead < size {
                 return i + ahead;
@@ -243,7 +195,7 @@ fn put_joined(out: &mut [u8], at: usize, g: &[u8]) -> usize
     requires { ⌜ at + length (joined (now g)) ≤ length (now out) ⌝ }
     ensures { λ r. ⌜ Wrote (now (out .entry)) at (joined (now (g .entry))) r (now (out .exit)) ⌝ }
 {
-    if has_break(g) {
+    if octets::has_break(g) {
         return put_byte(out, at, b' ');
     }
     copy(out, at, g)
@@ -257,9 +209,9 @@ fn put_pieces(out: &mut [u8], at: usize, v: &[u8]) -> usize
     let mut o = at;
     let mut i = 0;
     while i < v.len() {
-        if is_gap(v[i]) {
+        if octets::is_gap(v[i]) {
             let next = i + 1;
-            let end = gap_end(v, next);
+            let end = octets::gap_end(v, next);
             o = put_joined(out, o, &v[i..end]);
             i = end;
         } else {

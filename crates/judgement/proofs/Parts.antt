@@ -11,7 +11,8 @@ use lib.Seq.{drop-drop, getD-drop}
 use borrow.Author.Tests.{lt-ltb, eqb-true}
 use Rattle.octets.specs.Classes.{bit, isBreak, isGap}
 use Rattle.sip.specs.declared.Column.{Column}
-use Rattle.sip.specs.Lines.{Start, startSize, Header, Field, bytes, any, folded, trim, canonical}
+use Rattle.octets.specs.Scans.{any}
+use Rattle.sip.specs.Lines.{Start, startSize, Header, Field, bytes, folded, trim, canonical}
 use Rattle.sip.specs.Profile.{numberOf, ignored, mark, find, rows}
 use Rattle.sip.specs.Refusals.{lines, read, Entry, kept}
 use Rattle.sip.specs.Change.{headerBytes}

@@ -7,36 +7,15 @@ use native.Mathlib.Omega.{arith}
 use lib.ListN.{length, take, drop, getD, drop-of-length-le}
 use borrow.Author.Tests.{ne-eqb, not-true}
 use Rattle.octets.specs.Classes.{isBreak, isGap}
-use Rattle.octets.specs.Scans.{run}
+use Rattle.octets.specs.Scans.{run, any}
 use Rattle.octets.proofs.Places.{drop1}
-use Rattle.sip.specs.Lines.{any, unlessLast, trimEnd, trim}
+use Rattle.sip.specs.Lines.{unlessLast, trimEnd, trim}
 use Rattle.sip.specs.Values.{isEmpty}
 use Rattle.sip.specs.Readings.{noSpan}
 use Rattle.sip.specs.declared.Span.{Span}
 use Rattle.lines.specs.Sizes.{valuePart}
 use Rattle.lines.specs.Passes.{slotFor}
 use Rattle.lines.specs.declared.Slot.{Slot}
-
--- ---- a loop over the text: up to place i there is none
-
-module _ (s : List ℕ) where
-  module _ {i : ℕ} (e : any isBreak s ≡ any isBreak (drop i s)) where
-    pub over : length s ≤ i → false ≡ any isBreak s
-    unfolding any
-    over h = sym (e ∙ rw (drop-of-length-le s h))
-
-    module _ (h : i < length s) where
-      pub at-cr : getD s i 0 ≡ 13 → true ≡ any isBreak s
-      unfolding any isBreak
-      at-cr q = sym (e ∙ rw (drop1 s i h, q))
-
-      pub at-lf : getD s i 0 ≡ 10 → true ≡ any isBreak s
-      unfolding any isBreak
-      at-lf q = sym (e ∙ rw (drop1 s i h, q))
-
-      pub no-break : (getD s i 0 ≡ 13 → ⊥) → (getD s i 0 ≡ 10 → ⊥) → {k : ℕ} → k ≡ i + 1 → any isBreak s ≡ any isBreak (drop k s)
-      unfolding any isBreak
-      no-break p q z = e ∙ rw (drop1 s i h, ne-eqb (getD s i 0) 13 p, ne-eqb (getD s i 0) 10 q, z)
 
 -- ---- the part that is left
 

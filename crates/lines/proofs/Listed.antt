@@ -11,9 +11,9 @@ use lib.ListN.{length, take, drop, getD, length-append, length-take, length-drop
 use lib.Seq.{take-append-le, drop-append-le, drop-at, drop-drop}
 use borrow.Author.Tests.{eqb-true, eqb-false}
 use Rattle.octets.specs.Classes.{isBreak, isGap}
-use Rattle.octets.specs.Scans.{run}
+use Rattle.octets.specs.Scans.{run, any}
 use Rattle.octets.proofs.Runs.{run-le}
-use Rattle.sip.specs.Lines.{Start, start, startSize, Field, bytes, Header, header, any, trim}
+use Rattle.sip.specs.Lines.{Start, start, startSize, Field, bytes, Header, header, trim}
 use Rattle.sip.specs.Change.{headerBytes}
 use Rattle.sip.specs.Profile.{numberOf}
 use Rattle.sip.specs.Refusals.{unread, read, lines}

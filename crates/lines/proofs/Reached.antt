@@ -10,7 +10,8 @@ use lib.ListN.{length, take, drop, length-append, length-drop, drop-of-length-le
 use lib.Seq.{append-snoc, length-take-le, drop-drop}
 use borrow.Author.Tests.{ltb-true, ltb-false, leb-true, leb-false, le-leb, lt-leb}
 use Rattle.octets.specs.Classes.{isBreak}
-use Rattle.sip.specs.Lines.{Start, startSize, startsCRLF, Shape, shape, size, Field, bytes, fieldOf, Header, withField, header, any}
+use Rattle.octets.specs.Scans.{any}
+use Rattle.sip.specs.Lines.{Start, startSize, startsCRLF, Shape, shape, size, Field, bytes, fieldOf, Header, withField, header}
 use Rattle.sip.specs.Profile.{numberOf}
 use Rattle.sip.specs.Refusals.{unread, read, lines}
 use Rattle.sip.specs.Readings.{valueSpan}

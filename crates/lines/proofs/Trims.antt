@@ -2,7 +2,7 @@
 use mathlib.Core.Path.{_≡_, refl, sym, ap, _∙_}
 use mathlib.Core.Bool.{Bool, true, false, not, cond}
 use mathlib.Core.List.{List, [], _∷_, _++_}
-use Prim.Native.Nat.{ℕ, suc, _-_, _≤_, _<_}
+use Prim.Native.Nat.{ℕ, suc, _+_, _-_, _≤_, _<_}
 use native.Mathlib.Omega.{arith}
 use lib.ListN.{length, take, drop, getD}
 use lib.Seq.{take-length, take-suc, length-take-le}
@@ -58,7 +58,10 @@ module _ (s : List ℕ) where
 
 -- ---- the part of a value
 
-module _ (s : List ℕ) {n : ℕ} (hn : n ≡ run isGap s) {l : ℕ} (hl : l ≡ length (trimEnd isGap (take (length s - n) (drop n s)))) where
+module _ (s : List ℕ) {n : ℕ} (end : n ≡ 0 + run isGap (drop 0 s)) {l : ℕ} (hl : l ≡ length (trimEnd isGap (take (length s - n) (drop n s)))) where
+  hn : n ≡ run isGap s
+  hn = omega arith
+
   long-is : l ≡ length (trim isGap s)
   unfolding trim
   long-is = hl ∙ rw (drop-slice s n, hn)

@@ -10,9 +10,9 @@ use lib.ListN.{length, drop, length-drop}
 use lib.Seq.{drop-drop}
 use borrow.Author.Tests.{eqb-true, eqb-false, eq-eqb, ne-eqb, not-true, not-false}
 use Rattle.octets.specs.Classes.{isBlank, isBreak, isValue}
-use Rattle.octets.specs.Scans.{run}
+use Rattle.octets.specs.Scans.{run, any}
 use Rattle.octets.proofs.Runs.{run-nil, run-yes, run-no, run-after}
-use Rattle.sip.specs.Lines.{startsCRLF, startsBlank, more, valueSize, any}
+use Rattle.sip.specs.Lines.{startsCRLF, startsBlank, more, valueSize}
 use Rattle.lines.specs.Places.{breaks}
 use Rattle.lines.specs.Sizes.{endAt, valueEnd}
 

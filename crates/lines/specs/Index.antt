@@ -5,7 +5,8 @@ use Prim.Native.Nat.{ℕ, zero, suc, _+_, _*_, _-_}
 use lib.Dec.{eqb, ltb}
 use lib.ListN.{length, getD}
 use Rattle.octets.specs.Classes.{bit, isBreak, isGap}
-use Rattle.sip.specs.Lines.{Start, startSize, Field, bytes, Header, any, trim}
+use Rattle.octets.specs.Scans.{any}
+use Rattle.sip.specs.Lines.{Start, startSize, Field, bytes, Header, trim}
 use Rattle.sip.specs.Profile.{numberOf}
 use Rattle.sip.specs.Refusals.{Lines, unread, read, lines}
 use Rattle.sip.specs.Readings.{valueSpan}

@@ -5,8 +5,8 @@ use Prim.Native.Nat.{ℕ, zero, suc, _+_, _*_, _<_}
 use lib.Dec.{leb, eqb, ltb}
 use lib.ListN.{length, set}
 use Rattle.octets.specs.Classes.{bit, isBreak, isGap}
-use Rattle.octets.specs.Scans.{run}
-use Rattle.sip.specs.Lines.{any, trim}
+use Rattle.octets.specs.Scans.{run, any}
+use Rattle.sip.specs.Lines.{trim}
 use Rattle.sip.specs.Readings.{noSpan, place}
 use Rattle.sip.specs.Values.{isEmpty}
 use Rattle.sip.specs.declared.Span.{Span}

@@ -5,7 +5,8 @@ use mathlib.Core.Option.{Option, none, some}
 use Prim.Native.Nat.{ℕ, _+_}
 use lib.ListN.{length, take, drop}
 use Rattle.octets.specs.Classes.{isBreak}
-use Rattle.sip.specs.Lines.{Start, start, Shape, shape, any}
+use Rattle.octets.specs.Scans.{any}
+use Rattle.sip.specs.Lines.{Start, start, Shape, shape}
 use Rattle.lines.specs.declared.StartAt.{StartAt}
 use Rattle.lines.specs.declared.StartAt.the-variants.{Found as StartFound, Bad as NoStart}
 use Rattle.lines.specs.declared.FieldAt.{FieldAt}

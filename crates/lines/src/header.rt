@@ -12,7 +12,7 @@ ghost use mathlib.Core.List.{[]};
 ghost use Prim.Native.Nat.{_+_, _-_, _≤_, _<_};
 ghost use lib.ListN.{length, take, drop};
 ghost use Rattle.octets.specs.Classes.{classTable, bit, isBreak};
-ghost use Rattle.sip.specs.Lines.{any};
+ghost use Rattle.octets.specs.Scans.{any};
 ghost use Rattle.sip.specs.Profile.{numberOf};
 ghost use Rattle.lines.specs.Places.{startAt};
 ghost use Rattle.lines.specs.Index.{zeros, padded, unreadHead, index};
@@ -47,24 +47,6 @@ pub(crate) fn unread(slots: &mut [u16; 384], reason: u64) -> Message
     }
 }
 
-// A line break stands in the text.
-fn has_break(s: &[u8]) -> bool
-    ensures { λ r. ⌜ r ≡ any isBreak (now (s .entry)) ⌝ }
-{
-    let mut i = 0;
-    while i < s.len() {
-        let b = s[i];
-        if b == b'\r' {
-            return true;
-        }
-        if b == b'\n' {
-            return true;
-        }
-        i += 1;
-    }
-    false
-}
-
 // The slot of a field of that number whose value v stands at the place at. A value of one line is not looked at again for a line break.
 fn slot(number: usize, at: usize, v: &[u8], folded: bool) -> Slot
     requires { ⌜ (folded ≡ any isBreak (now v)) × (at + length (now v) ≤ 8192) ⌝ }
@@ -91,7 +73,7 @@ fn slot(number: usize, at: usize, v: &[u8], folded: bool) -> Slot
         };
     }
     let last = gap + len;
-    let broken = has_break(&v[gap..last]);
+    let broken = octets::has_break(&v[gap..last]);
     Slot {
         number,
         start,

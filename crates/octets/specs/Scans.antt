@@ -1,5 +1,5 @@
 -- What stands at the front of a text: the readings that all others are made of.
-use mathlib.Core.Bool.{Bool, true, false, cond, _&&_}
+use mathlib.Core.Bool.{Bool, true, false, cond, _&&_, _||_}
 use mathlib.Core.List.{List, [], _∷_}
 use Prim.Native.Nat.{ℕ, zero, suc, _+_, _-_, _*_}
 use lib.Dec.{leb, eqb}
@@ -18,6 +18,11 @@ run p (b ∷ s) = let r = suc (run p s) in cond (p b) r zero
 unfoldable pub all : (ℕ → Bool) → List ℕ → Bool
 all p [] = true
 all p (b ∷ s) = p b && all p s
+
+-- some byte is of the class
+unfoldable pub any : (ℕ → Bool) → List ℕ → Bool
+any p [] = false
+any p (b ∷ s) = p b || any p s
 
 -- the first byte is b
 unfoldable pub starts : ℕ → List ℕ → Bool

@@ -4,8 +4,8 @@ ghost use Prim.Native.Nat.{_+_, _-_, _≤_, min};
 ghost use lib.Dec.{eqb, ltb};
 ghost use mathlib.Core.Bool.{cond};
 ghost use lib.ListN.{length, take, drop};
-ghost use Rattle.octets.specs.Classes.{within, bit, classTable, inTable, isHex};
-ghost use Rattle.octets.specs.Scans.{run, starts, escape, runEscaped, quoted, noNumber, number, lower, same, sameText};
+ghost use Rattle.octets.specs.Classes.{within, bit, classTable, inTable, isHex, isGap, isBreak};
+ghost use Rattle.octets.specs.Scans.{run, any, starts, escape, runEscaped, quoted, noNumber, number, lower, same, sameText};
 
 mod table;
 
@@ -157,6 +157,54 @@ pub fn ahead(s: &[u8], b: u8) -> usize
         return 0;
     }
     1
+}
+
+// A space, tab, CR or LF. By comparison: it is asked of single bytes mostly.
+pub fn is_gap(b: u8) -> bool
+    ensures { λ r. ⌜ r ≡ isGap b ⌝ }
+{
+    if b == b' ' {
+        return true;
+    }
+    if b == b'\t' {
+        return true;
+    }
+    if b == b'\r' {
+        return true;
+    }
+    b == b'\n'
+}
+
+// Where the run of gap bytes ends that goes on at a place. Past the end it is empty.
+pub fn gap_end(s: &[u8], at: usize) -> usize
+    ensures { λ r. ⌜ (r ≡ at + run isGap (drop at (now (s .entry)))) × (r ≤ at + (length (now (s .entry)) - at)) ⌝ }
+{
+    let mut i = at;
+    while i < s.len() {
+        if !is_gap(s[i]) {
+            return i;
+        }
+        i += 1;
+    }
+    i
+}
+
+// A byte of a line break stands in the text.
+pub fn has_break(s: &[u8]) -> bool
+    ensures { λ r. ⌜ r ≡ any isBreak (now (s .entry)) ⌝ }
+{
+    let mut i = 0;
+    while i < s.len() {
+        let b = s[i];
+        if b == b'\r' {
+            return true;
+        }
+        if b == b'\n' {
+            return true;
+        }
+        i += 1;
+    }
+    false
 }
 
 // The two texts have the same bytes.

@@ -11,7 +11,8 @@ use lib.Seq.{length-take-le, take-length, take-take, drop-drop}
 use borrow.Author.Tests.{eqb-true, eqb-false}
 use Rattle.octets.specs.Classes.{isGap}
 use Rattle.sip.specs.declared.Span.{Span}
-use Rattle.sip.specs.Lines.{Start, Header, any, folded, unfoldedAt}
+use Rattle.octets.specs.Scans.{any}
+use Rattle.sip.specs.Lines.{Start, Header, folded, unfoldedAt}
 use Rattle.sip.specs.Profile.{columnOf, ignored}
 use Rattle.sip.specs.Values.{address, personSize, person, identity, isGlobal, isIdentity}
 use Rattle.sip.specs.Refusals.{Lines, lines, unread, read, refusal, valueOf, wellFormed}

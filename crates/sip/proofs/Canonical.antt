@@ -7,9 +7,9 @@ use native.Mathlib.Omega.{arith}
 use lib.ListN.{length, take, drop, length-append, take-append-drop}
 use lib.Seq.{take-append-seam, drop-append-seam}
 use Rattle.octets.specs.Classes.{isBlank, isBreak, isGap}
-use Rattle.octets.specs.Scans.{run, all}
+use Rattle.octets.specs.Scans.{run, all, any}
 use Rattle.octets.proofs.Runs.{run-yes, run-no, run-nil, run-all, run-after, run-exact}
-use Rattle.sip.specs.Lines.{any, joined, folded, unlessLast, trimEnd, trim, canonical}
+use Rattle.sip.specs.Lines.{joined, folded, unlessLast, trimEnd, trim, canonical}
 
 -- ---- one run at a time
 

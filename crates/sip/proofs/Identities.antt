@@ -8,9 +8,8 @@ use lib.Dec.{eqb}
 use lib.ListN.{length, drop, length-drop}
 use borrow.Author.Tests.{eqb-true, eqb-false, ne-eqb, not-true}
 use Rattle.octets.specs.Classes.{within, isDigit, isBlank, isBreak, isGap}
-use Rattle.octets.specs.Scans.{run, all, starts}
+use Rattle.octets.specs.Scans.{run, all, starts, any}
 use Rattle.octets.proofs.Runs.{whole-all}
-use Rattle.sip.specs.Lines.{any}
 use Rattle.sip.specs.Values.{address, personSize, identity, isGlobal, isIdentity}
 use Rattle.sip.proofs.Tests.{and-left, and-right, range-low, byte-start, all-first, all-others}
 use Rattle.sip.proofs.Addresses.{address-within}

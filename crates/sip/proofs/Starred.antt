@@ -1,8 +1,8 @@
 -- Every starred case holds: both sides of each row compute to the same.
 use mathlib.Core.Path.{refl}
 use Rattle.octets.specs.Classes.{text, isDigit, isHex, isToken, isUser, isParameter, isHost, isBlank, isBreak, isGap, isValue, isVisible}
-use Rattle.octets.specs.Scans.{run, all, starts, escape, runEscaped, closes, quoted, decimal, number, lower, same, sameText}
-use Rattle.sip.specs.Lines.{isVersion, start, startsCRLF, startsBlank, valueSize, shape, header, any, joined, folded, trimEnd, trim, canonical}
+use Rattle.octets.specs.Scans.{run, all, starts, escape, runEscaped, closes, quoted, decimal, number, lower, same, sameText, any}
+use Rattle.sip.specs.Lines.{isVersion, start, startsCRLF, startsBlank, valueSize, shape, header, joined, folded, trimEnd, trim, canonical}
 use Rattle.sip.specs.Output.{digits, startLine, anonymous, sentValue, line, fieldLines, output}
 use Rattle.sip.specs.Profile.{rows, lookup, numberOf, find, nameOf, once, mark, columnOf, ignored, mandatory, numbers}
 use Rattle.sip.specs.Refusals.{replied, lines, kept, valueOf, occurs, toTagged, withheld, contentLength, bodyOf, otherScheme, reason7, isUri}

@@ -9,9 +9,9 @@ use lib.ListN.{length, take, drop, length-append, take-append-drop}
 use lib.Seq.{length-take-le, drop-nil, drop-drop, drop-append-add}
 use borrow.Author.Tests.{ltb-true, ltb-false, le-ltb, lt-ltb, ne-eqb}
 use Rattle.octets.specs.Classes.{isBlank, isBreak, isGap}
-use Rattle.octets.specs.Scans.{run, all}
+use Rattle.octets.specs.Scans.{run, all, any}
 use Rattle.octets.proofs.Runs.{run-yes, run-no, run-nil, run-all, run-le}
-use Rattle.sip.specs.Lines.{any, joined, folded, unfoldedAt}
+use Rattle.sip.specs.Lines.{joined, folded, unfoldedAt}
 use Rattle.sip.proofs.Tests.{never, all-first, all-others}
 use Rattle.sip.proofs.Canonical.{folded-byte, folded-run, by-runs, any-first, joined-le}
 

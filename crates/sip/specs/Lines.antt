@@ -1,12 +1,12 @@
 -- Document 01, "Lines".
-use mathlib.Core.Bool.{Bool, false, not, cond, _&&_, _||_}
+use mathlib.Core.Bool.{Bool, false, not, cond, _&&_}
 use mathlib.Core.List.{List, [], _∷_, _++_}
 use mathlib.Core.Option.{Option, none, some}
 use Prim.Native.Nat.{ℕ, zero, suc, _+_, _-_}
 use lib.Dec.{eqb, ltb}
 use lib.ListN.{length, take, drop}
 use Rattle.octets.specs.Classes.{text, within, isToken, isBlank, isBreak, isGap, isValue, isVisible}
-use Rattle.octets.specs.Scans.{run, starts, sameText}
+use Rattle.octets.specs.Scans.{run, any, starts, sameText}
 
 abbrev pub crlf : List ℕ
 crlf = 13 ∷ 10 ∷ []
@@ -126,10 +126,6 @@ header zero (b ∷ s) =
 
 -- ---- "Canonical value: each maximal run of spaces, tabs and CRLFs that holds a CRLF becomes one space; then spaces and tabs go from
 -- both ends." In a value a CR or LF stands only in a CRLF.
-
-unfoldable pub any : (ℕ → Bool) → List ℕ → Bool
-any p [] = false
-any p (b ∷ s) = p b || any p s
 
 -- one maximal run
 unfoldable pub joined : List ℕ → List ℕ

@@ -7,7 +7,8 @@ use native.Mathlib.Omega.{arith}
 use lib.ListN.{length}
 use borrow.Author.Needs.{needs}
 use Rattle.octets.specs.Classes.{isBreak}
-use Rattle.sip.specs.Lines.{any, joined}
+use Rattle.octets.specs.Scans.{any}
+use Rattle.sip.specs.Lines.{joined}
 use Rattle.sip.proofs.Canonical.{joined-le}
 use Rattle.emit.proofs.Pieces.{joined-space, joined-same}
 use Rattle.emit.proofs.joined_len.Statement.{statement}

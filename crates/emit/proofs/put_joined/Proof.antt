@@ -7,7 +7,8 @@ use native.Mathlib.Omega.{arith}
 use lib.ListN.{length}
 use borrow.Author.Needs.{needs}
 use Rattle.octets.specs.Classes.{isBreak}
-use Rattle.sip.specs.Lines.{any, joined}
+use Rattle.octets.specs.Scans.{any}
+use Rattle.sip.specs.Lines.{joined}
 use Rattle.emit.specs.Put.{Wrote}
 use Rattle.emit.proofs.Laws.{wrote-as}
 use Rattle.emit.proofs.Pieces.{joined-space, joined-same}

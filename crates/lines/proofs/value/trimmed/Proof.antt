@@ -4,8 +4,8 @@ use borrow.Author.Needs.{needs}
 use Rattle.lines.proofs.value.trimmed.Statement.{statement}
 use Rattle.lines.proofs.value.trimmed.Tie as tie
 
-start-of-requires : tie.Need-start-of-requires
-start-of-requires c κs = search needs
+gap-end-requires : tie.Need-gap-end-requires
+gap-end-requires c κs = search needs
 
 sub-end-of : tie.Need-sub-end-of
 sub-end-of c = search needs
@@ -29,7 +29,7 @@ pub trimmed-spec : {M : Type 1} → statement M
 trimmed-spec =
     tie.close
     (tie.spec
-    start-of-requires
+    gap-end-requires
     sub-end-of
     part-end-of-start
     part-end-of-end

@@ -1,19 +1,20 @@
--- The invariant: the gap is what was passed and the gap that is left from place i on. The measure is what is left of the text.
+-- `octets::gap_end` meets its contract. The invariant: the run from the place on is what was passed and the run of what is left from i on.
 use mathlib.Core.Path.{_≡_}
-use Prim.Native.Nat.{_+_, _≤_, _-_}
+use Prim.Native.Nat.{_+_, _-_, _≤_}
+use native.Mathlib.Omega.{arith}
 use lib.ListN.{length, drop}
 use Rattle.octets.specs.Classes.{isGap}
 use Rattle.octets.specs.Scans.{run}
 use Rattle.octets.proofs.Runs.{loop-stop, loop-next, loop-over}
 use borrow.Author.Needs.{needs}
-use Rattle.lines.proofs.value.start_of.Statement.{statement}
-use Rattle.lines.proofs.value.start_of.Tie as tie
+use Rattle.octets.proofs.gap_end.Statement.{statement}
+use Rattle.octets.proofs.gap_end.Tie as tie
 
 abbrev Inv-loop : tie.InvT-loop
-Inv-loop s i₀ i = (i ≤ length s) × (run isGap s ≡ i + run isGap (drop i s))
+Inv-loop s at i₀ i = (i ≤ at + (length s - at)) × (at + run isGap (drop at s) ≡ i + run isGap (drop i s))
 
 abbrev μ-loop : tie.MeasureT-loop
-μ-loop s i₀ i = length s - i
+μ-loop s at i₀ i = length s - i
 
 loop-holds : tie.Need-loop-holds Inv-loop μ-loop
 loop-holds c = search needs
@@ -25,7 +26,7 @@ is-gap-requires : tie.Need-is-gap-requires Inv-loop μ-loop
 is-gap-requires c κs = search needs
 
 returns : tie.Need-returns Inv-loop μ-loop
-returns c = search (loop-stop, needs)
+returns c = search (loop-stop, arith)
 
 add-i : tie.Need-add-i Inv-loop μ-loop
 add-i c = search needs
@@ -34,13 +35,13 @@ loop-less : tie.Need-loop-less Inv-loop μ-loop
 loop-less c = search needs
 
 loop-again : tie.Need-loop-again Inv-loop μ-loop
-loop-again c = search (loop-next, needs)
+loop-again c = search (loop-next, arith)
 
 returns-2 : tie.Need-returns-2 Inv-loop μ-loop
-returns-2 c = search (loop-over, needs)
+returns-2 c = search (loop-over, arith)
 
-pub start-of-spec : {M : Type 1} → statement M
-start-of-spec =
+pub gap-end-spec : {M : Type 1} → statement M
+gap-end-spec =
     tie.close
     (tie.spec
     Inv-loop

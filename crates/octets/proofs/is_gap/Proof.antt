@@ -4,9 +4,9 @@ use mathlib.Core.Bool.{true}
 use Prim.Native.Nat.{ℕ}
 use lib.Dec.{eqb}
 use borrow.Author.Tests.{ne-eqb}
 use Rattle.octets.specs.Classes.{isGap}
-use Rattle.lines.proofs.value.is_gap.Statement.{statement}
-use Rattle.lines.proofs.value.is_gap.Tie as tie
+use Rattle.octets.proofs.is_gap.Statement.{statement}
+use Rattle.octets.proofs.is_gap.Tie as tie
 
 module _ (b : ℕ) where
   space : b ≡ 32 → true ≡ isGap b
