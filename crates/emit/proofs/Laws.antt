@@ -147,9 +147,6 @@ module _ {d : List ℕ} {at : ℕ} {a : List ℕ} {n : ℕ} {d₁ : List ℕ} (w
   pub wrote-room : at + length a ≤ length d → (n ≡ at + length a) × (d₁ ≡ take at d ++ (a ++ drop (at + length a) d))
   wrote-room h = (w .next ∙ next-room d at a h, w .holds ∙ put-room d at a h)
 
-  pub wrote-full : length d < at + length a → (n ≡ at) × (d₁ ≡ d)
-  wrote-full h = (w .next ∙ next-full d at a h, w .holds ∙ put-full d at a h)
-
   pub wrote-length : length d₁ ≡ length d
   wrote-length = ap length (w .holds) ∙ length-put d at a
 

@@ -4,8 +4,6 @@ ghost use mathlib.Core.List.{[], _∷_};
 ghost use Prim.Native.Nat.{_+_, _%_, _≤_, _<_};
 ghost use lib.Dec.{leb};
 ghost use lib.ListN.{length, take, drop};
-ghost use Rattle.octets.specs.Classes.{isBreak, isGap};
-ghost use Rattle.octets.specs.Scans.{run, any};
 ghost use Rattle.sip.specs.Lines.{joined, folded, unfoldedAt};
 ghost use Rattle.sip.specs.Output.{numeral};
 ghost use Rattle.emit.specs.Put.{Wrote};

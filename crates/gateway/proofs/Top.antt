@@ -2,7 +2,7 @@
 use mathlib.Core.Path.{_≡_, refl, sym, ap, _∙_}
 use mathlib.Core.Bool.{Bool, true, false, cond, _&&_}
 use mathlib.Core.List.{List, [], _∷_, _++_, append-assoc}
-use Prim.Native.Nat.{ℕ, _+_, _-_, _≤_, _<_}
+use Prim.Native.Nat.{ℕ, _+_, _≤_, _<_}
 use native.Mathlib.Omega.{arith}
 use lib.Dec.{eqb, leb}
 use lib.ListN.{length, take, drop, length-append, length-drop}
@@ -21,7 +21,7 @@ use Rattle.judgement.specs.declared.Judged.{Judged}
 use Rattle.judgement.specs.declared.Refusal.{Refusal}
 use Rattle.judgement.specs.Entries.{entriesFrom}
 use Rattle.judgement.specs.Judged.{judgedMessage}
-use Rattle.judgement.specs.Judges.{Told as JudgedTold, nothing as nothing-judged, also as also-judged, Passes}
+use Rattle.judgement.specs.Judges.{Told as JudgedTold, also as also-judged, Passes}
 use Rattle.judgement.proofs.Messages.{judges}
 use Rattle.judgement.proofs.Parts.{parts}
 use Rattle.lines.specs.Index.{index}

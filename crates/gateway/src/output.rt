@@ -11,7 +11,6 @@ ghost use lib.Dec.{eqb};
 ghost use lib.ListN.{length, take, drop};
 ghost use Rattle.octets.specs.Classes.{text};
 ghost use Rattle.sip.specs.Lines.{crlf, folded};
-ghost use Rattle.sip.specs.Profile.{nameOf};
 ghost use Rattle.sip.specs.Output.{anonymous, sentValue, fieldLines};
 ghost use Rattle.emit.specs.Put.{Wrote};
 ghost use Rattle.judgement.specs.Entries.{entryAt, entriesFrom};

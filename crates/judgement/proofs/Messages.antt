@@ -5,13 +5,13 @@ use mathlib.Core.List.{List}
 use mathlib.Core.Option.{Option, none, some}
 use Prim.Native.Nat.{ℕ, zero, suc, _≤_, _<_}
 use native.Mathlib.Omega.{arith}
-use lib.Dec.{eqb, leb}
+use lib.Dec.{leb}
 use lib.ListN.{length, drop}
 use borrow.Author.Tests.{eq-eqb, ne-eqb}
 use Rattle.sip.specs.Lines.{Start, start, startSize, Header, header}
 use Rattle.sip.specs.Refusals.{refusal, Lines, unread, read, headerLines, startLines, lines, judgement, refused}
 use Rattle.lines.specs.declared.Message.{Message}
-use Rattle.lines.specs.Index.{Indexed, indexOf, index}
+use Rattle.lines.specs.Index.{indexOf, index}
 use Rattle.judgement.specs.declared.Refusal.{Refusal}
 use Rattle.judgement.specs.declared.Judged.{Judged}
 use Rattle.judgement.specs.Judged.{refusedFor, judgedLines, judgedMessage}

@@ -5,7 +5,7 @@ use mathlib.Core.List.{List, [], _∷_, _++_}
 use Prim.Native.Nat.{ℕ, suc, _+_}
 use native.Mathlib.Omega.{arith}
 use lib.Dec.{eqb}
-use lib.ListN.{length, length-append}
+use lib.ListN.{length}
 use borrow.Author.Tests.{eqb-true, ne-eqb}
 use Rattle.sip.specs.Values.{isLacking, requiredTags}
 use Rattle.sip.specs.Refusals.{Entry, allTags, firstLacking}
@@ -51,17 +51,6 @@ module _ (method : List ℕ) where
   place-in : (n : ℕ) (v : List ℕ) → later n (finding method 14 v .start) ≡ firstLacking n (requiredTags v)
   place-in n v = let e : n + 0 ≡ n = omega arith in rw (place-is v) (sym (rw e at (lacking-place n 0 (requiredTags v))))
 
-  tags-is : (t : Tally) (es : List Entry) → tallied method t es .tags ≡ t .tags + length (allTags es)
-  unfolding tallied allTags noted
-  tags-is t [] = omega arith
-  tags-is t (e ∷ es) = tags-is (next method t e) es ∙ go (eqb (e .number) 14) refl
-    where
-      go : (b : Bool) → eqb (e .number) 14 ≡ b
-          → cond b (t .tags + finding method (e .number) (e .value) .len) (t .tags) + length (allTags es)
-          ≡ t .tags + length (cond b (requiredTags (e .value) ++ allTags es) (allTags es))
-      go true q = rw (eqb-true (e .number) 14 q, count-is (e .value), length-append) (omega arith)
-      go false q = refl
-
   lacking-is : (t : Tally) (es : List Entry) → tallied method t es .lacking ≡ orElse (t .lacking) (firstLacking (t .tags) (allTags es))
   unfolding tallied allTags noted firstLacking
   lacking-is t [] = sym (else-none (t .lacking))
@@ -75,9 +64,6 @@ module _ (method : List ℕ) where
           rw (eqb-true (e .number) 14 q, count-is (e .value), place-in (t .tags) (e .value), lacking-append (t .tags) (requiredTags (e .value)) (allTags es))
           (else-assoc (t .lacking) (firstLacking (t .tags) (requiredTags (e .value))) (firstLacking (t .tags + length (requiredTags (e .value))) (allTags es)))
       go false q = refl
-
-  pub total-tags : (es : List Entry) → tallied method noTally es .tags ≡ length (allTags es)
-  total-tags es = omega (arith, tags-is noTally es)
 
   pub total-lacking : (es : List Entry) → tallied method noTally es .lacking ≡ firstLacking 0 (allTags es)
   total-lacking es = lacking-is noTally es

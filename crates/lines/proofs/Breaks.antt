@@ -4,11 +4,10 @@ use mathlib.Core.Bool.{Bool, true, false, not, cond, _||_}
 use mathlib.Core.List.{List, [], _∷_}
 use Prim.Native.Nat.{ℕ, zero, suc, _+_, _-_, _≤_, _<_}
 use native.Mathlib.Omega.{arith}
-use lib.ListN.{length, take, drop, getD, drop-of-length-le}
-use borrow.Author.Tests.{ne-eqb, not-true}
+use lib.ListN.{length, take, drop}
+use borrow.Author.Tests.{not-true}
 use Rattle.octets.specs.Classes.{isBreak, isGap}
 use Rattle.octets.specs.Scans.{run, any}
-use Rattle.octets.proofs.Places.{drop1}
 use Rattle.sip.specs.Lines.{unlessLast, trimEnd, trim}
 use Rattle.sip.specs.Values.{isEmpty}
 use Rattle.sip.specs.Readings.{noSpan}

@@ -10,4 +10,3 @@ pub mod Counts
 pub mod Keeps
 pub mod Reached
 pub mod Messages
-pub mod Listed

@@ -49,11 +49,6 @@ module _ (p : ℕ → Bool) where
   run-after =
       by-first (λ s. run p (drop (run p s) s) ≡ 0) (rw run-nil run-nil) (λ b s h e. rw (run-yes b s e) h) (λ b s e. rw (run-no b s e) (run-no b s e))
 
-  pub run-next : (s : List ℕ) → run p s < length s → p (getD s (run p s) 0) ≡ false
-  run-next =
-      by-first (λ s. run p s < length s → p (getD s (run p s) 0) ≡ false) (λ h. absurd (omega arith))
-      (λ b s f e h. rw (run-yes b s e) (f (omega (arith, run-yes b s e)))) (λ b s e h. rw (run-no b s e) e)
-
   all-first : (b : ℕ) (s : List ℕ) → all p (b ∷ s) ≡ true → (p b ≡ true) × (all p s ≡ true)
   unfolding all
   all-first b s e = go (p b) refl

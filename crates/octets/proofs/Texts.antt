@@ -50,11 +50,6 @@ module _ (f : ℕ → ℕ) where
   agree-length (x ∷ xs) [] e = absurd (never e)
   agree-length (x ∷ xs) (y ∷ ys) e = ap suc (agree-length xs ys (agree-first x y xs ys e .1))
 
-  pub agree-self : (s : List ℕ) → agree f s s ≡ true
-  unfolding agree
-  agree-self [] = refl
-  agree-self (x ∷ xs) = rw (eq-eqb (f x) (f x) refl) (agree-self xs)
-
 -- a comparison that is `agree f`, by a loop over the places of both texts
 module _ (g : List ℕ → List ℕ → Bool) (f : ℕ → ℕ) (is : (s t : List ℕ) → g s t ≡ agree f s t) (s t : List ℕ) where
   pub lengths-differ : (length s ≡ length t → ⊥) → false ≡ g s t
@@ -82,21 +77,6 @@ module _ (g : List ℕ → List ℕ → Bool) (f : ℕ → ℕ) (is : (s t : Lis
       pub bytes-agree : {k : ℕ} → x ≡ y → k ≡ i + 1 → g s t ≡ g (drop k s) (drop k t)
       bytes-agree q z = rw z (e ∙ is (drop i s) (drop i t) ∙ at ∙ rw (eq-eqb x y q) (sym (is (drop (i + 1) s) (drop (i + 1) t))))
 
--- the same bytes are the same text
-pub same-eq : (s t : List ℕ) → same s t ≡ true → s ≡ t
-same-eq s t e = go s t (sym (same-agree s t) ∙ e)
-  where
-    go : (s t : List ℕ) → agree (λ b. b) s t ≡ true → s ≡ t
-    go [] [] e = refl
-    go [] (y ∷ ys) e = cc (agree-length (λ b. b) [] (y ∷ ys) e)
-    go (x ∷ xs) [] e = cc (agree-length (λ b. b) (x ∷ xs) [] e)
-    go (x ∷ xs) (y ∷ ys) e = let h : (x ≡ y) × (agree (λ b. b) xs ys ≡ true) = agree-first (λ b. b) x y xs ys e in cc (go xs ys (h .1))
-
-pub same-self : (s : List ℕ) → same s s ≡ true
-same-self s = same-agree s s ∙ agree-self (λ b. b) s
-
-pub sameText-self : (s : List ℕ) → sameText s s ≡ true
-sameText-self s = sameText-agree s s ∙ agree-self lower s
-
+-- texts that are the same in any letter case have one length
 pub sameText-length : (s t : List ℕ) → sameText s t ≡ true → length s ≡ length t
 sameText-length s t e = agree-length lower s t (sym (sameText-agree s t) ∙ e)

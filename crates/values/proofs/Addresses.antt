@@ -8,19 +8,12 @@ use lib.ListN.{length, take, drop}
 use lib.Seq.{drop-drop}
 use Rattle.sip.specs.declared.UriAt.{UriAt}
 use Rattle.sip.specs.declared.AddressAt.{AddressAt}
-use Rattle.sip.specs.Values.{address, personSize, person, identity, isIdentity}
-use Rattle.sip.specs.Readings.{part}
-use Rattle.values.specs.Answers.{identityAt}
+use Rattle.sip.specs.Values.{address, personSize, person}
 
 -- a URI's person, the URI starting at a place of the value
 pub person-at : (u : UriAt) (at : ℕ) (v : List ℕ) → person u (drop at v) ≡ take (personSize u) (drop (at + 4) v)
 unfolding person
 person-at u at v = rw (drop-drop 4 at v)
-
--- the number of a well-formed identity is the part that is answered
-pub identity-part : (v : List ℕ) → isIdentity v ≡ true → identity v ≡ part (identityAt v) v
-unfolding identity identityAt
-identity-part v e = rw e (person-at (address v .uri) (address v .at) v)
 
 -- the person stands in the URI behind four bytes
 person-fits : (u : UriAt) → u .user + 4 ≤ u .size → personSize u + 4 ≤ u .size
