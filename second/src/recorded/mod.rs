@@ -6,6 +6,7 @@
 mod columns;
 mod edges;
 mod outside;
+pub mod reviewed;
 mod sizes;
 mod strewn;
 
@@ -40,7 +41,7 @@ impl Case {
 pub fn cases() -> Vec<Case> {
     let mut all: Vec<Case> = Vec::new();
     let mut seen = std::collections::HashSet::new();
-    for group in [outside::cases(), columns::cases(), edges::cases(), sizes::cases(), strewn::cases()] {
+    for group in [outside::cases(), reviewed::cases(), columns::cases(), edges::cases(), sizes::cases(), strewn::cases()] {
         for case in group {
             assert!(case.message.len() <= MOST && case.room <= ROOM, "a recorded case is too long");
             if seen.insert(case.encoded()) {
