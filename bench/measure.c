@@ -1,16 +1,20 @@
 /*
- * One screening, or one parsing and writing, of each message by each of four implementations:
+ * One screening, or one parsing and writing, of each message by each of four implementations, and the library's other functions:
  *   mishkolar   the proved library: judge, and write the outgoing message into a buffer
  *   second      the second implementation, the same
  *   osip        libosip2: parse into its structures, write as text, free
  *   sofia       sofia-sip: the same
+ *   calling     the proved library's calling number
+ *   count       its count of Via
+ *   reading     its reading of the first Via
  * Buffers are not cleared between the calls. Every call is done once before it is measured.
  *
  * use: measure count FILE...    one call of a measured_ function for each printed line, with a dump by callgrind that has its number
  *      measure time FILE...     prints the median nanoseconds of one call
- * A line is: file, implementation, 1 where the message was taken or 0, nanoseconds or the number of the dump.
+ * A line is: file, name as above, 1 where the message was taken or 0, nanoseconds or the number of the dump.
  */
 #define _POSIX_C_SOURCE 200809L
+#include <stdarg.h>
 #include <stdint.h>
 #include <stdio.h>
 #include <stdlib.h>
@@ -27,6 +31,7 @@
 #include "mishkolar.h"
 
 #define SIDE 1
+#define VIA_NUMBER 1
 #define BATCHES 201
 #define BATCH_NANOSECONDS 50000
 
@@ -37,7 +42,7 @@ static size_t len;
 static uint8_t out[9216];
 static volatile size_t sink;
 
-/* Each returns the length written, 0 where the message is not taken. */
+/* Each returns a length or a count, 0 where the message is not taken. */
 __attribute__((noinline)) size_t measured_mishkolar(void)
 {
     uint64_t reason, reply, detail, missing;
@@ -83,14 +88,36 @@ __attribute__((noinline)) size_t measured_sofia(void)
     return text_len;
 }
 
+__attribute__((noinline)) size_t measured_calling(void)
+{
+    static const uint8_t trunk[] = "+33999999999";
+    size_t start;
+    uint64_t from_trunk;
+    return mishkolar_calling_number(message, len, trunk, sizeof trunk - 1, &start, &from_trunk);
+}
+
+__attribute__((noinline)) size_t measured_count(void)
+{
+    return mishkolar_count(message, len, VIA_NUMBER);
+}
+
+__attribute__((noinline)) size_t measured_reading(void)
+{
+    size_t start;
+    return mishkolar_reading(message, len, VIA_NUMBER, 1, &start);
+}
+
 static const struct {
     const char *name;
     size_t (*call)(void);
-} implementations[] = {
+} tasks[] = {
     { "mishkolar", measured_mishkolar },
     { "second", measured_second },
     { "osip", measured_osip },
     { "sofia", measured_sofia },
+    { "calling", measured_calling },
+    { "count", measured_count },
+    { "reading", measured_reading },
 };
 
 static double nanoseconds(void)
@@ -131,6 +158,11 @@ static double median(size_t (*call)(void))
     return times[BATCHES / 2];
 }
 
+static void say_nothing(const char *file, int line, osip_trace_level_t level, const char *format, va_list words)
+{
+    (void)file, (void)line, (void)level, (void)format, (void)words;
+}
+
 int main(int argc, char **argv)
 {
     int timed = argc > 2 && strcmp(argv[1], "time") == 0;
@@ -142,6 +174,8 @@ int main(int argc, char **argv)
         return 2;
     }
     parser_init();
+    /* libosip2 would write a line to standard output for each message that it refuses. */
+    osip_trace_initialize_func(TRACE_LEVEL0, say_nothing);
     for (place = 2; place < argc; place++) {
         FILE *file = fopen(argv[place], "rb");
         if (file == NULL) {
@@ -150,19 +184,19 @@ int main(int argc, char **argv)
         }
         len = fread(message, 1, sizeof message, file);
         fclose(file);
-        for (i = 0; i < sizeof implementations / sizeof implementations[0]; i++) {
+        for (i = 0; i < sizeof tasks / sizeof tasks[0]; i++) {
             /* The first call warms up. */
-            size_t taken = implementations[i].call();
+            size_t taken = tasks[i].call();
             double number;
             if (timed) {
-                number = median(implementations[i].call);
+                number = median(tasks[i].call);
             } else {
                 CALLGRIND_ZERO_STATS;
-                sink = implementations[i].call();
+                sink = tasks[i].call();
                 CALLGRIND_DUMP_STATS;
                 number = ++dumps;
             }
-            printf("%s %s %d %.0f\n", argv[place], implementations[i].name, taken != 0, number);
+            printf("%s %s %d %.0f\n", argv[place], tasks[i].name, taken != 0, number);
             fflush(stdout);
         }
     }

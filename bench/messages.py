@@ -3,10 +3,14 @@
 
 call            the build description's call in full
 invite          an INVITE of about 1,300 bytes with a body
+refused-REASON  the same INVITE, refused early (3: start line), in the middle (4: a field without colon) or late (12: no Allow)
+empty           80 empty fields
 SHAPE-LENGTH    messages that ask for the most work, accepted, of 1,000 to 8,192 bytes each:
   folds         one value folded at every fifth byte
   quoted        one long quoted string with an escape at every second byte
   parameters    one address with many parameters
+  bare          the same, each parameter as short as can be
+  folded        the same, with a fold before each
   tags          many required tags
   fields        96 fields
 """
@@ -14,7 +18,7 @@ import os
 import sys
 
 LENGTHS = [1000, 2000, 3000, 4000, 6000, 8192]
-SHAPES = ["folds", "quoted", "parameters", "tags", "fields"]
+SHAPES = ["folds", "quoted", "parameters", "bare", "folded", "tags", "fields"]
 
 CALL = """INVITE sip:+33123456789@gw.example SIP/2.0
 v: SIP/2.0/UDP relay.example;branch=z9hG4bK7
@@ -116,9 +120,20 @@ def shaped(shape, length):
         return stretched("From", '"', '\\"', '" <sip:+33187654321@a.example>;tag=1', length)
     if shape == "parameters":
         return stretched("From", "<sip:+33187654321@a.example>", ";a=b", ";tag=1", length)
+    if shape == "bare":
+        return stretched("From", "<sip:+33187654321@a.example>", ";a", ";tag=1", length)
+    if shape == "folded":
+        return stretched("From", "<sip:+33187654321@a.example>", "\r\n ;a", ";tag=1", length)
     if shape == "tags":
         return stretched("Require", "timer", ",timer", "", length)
     return many_fields(length)
+
+
+def replaced(text, old, new):
+    """The text with one part, which stands in it once, replaced."""
+    if text.count(old) != 1:
+        sys.exit(f"{old!r} does not stand once in the message")
+    return text.replace(old, new)
 
 
 def main():
@@ -127,7 +142,12 @@ def main():
     folder = sys.argv[1]
     os.makedirs(folder, exist_ok=True)
     sdp = crlf(SDP)
-    messages = {"call": crlf(CALL), "invite": crlf(INVITE.format(length=len(sdp))) + sdp}
+    invite = crlf(INVITE.format(length=len(sdp))) + sdp
+    messages = {
+        "call": crlf(CALL), "invite": invite, "refused-3": replaced(invite, " SIP/2.0\r\n", " SIP/2.1\r\n"),
+        "refused-4": replaced(invite, "CSeq: ", "CSeq "), "refused-12": replaced(invite, "Allow: ", "X-Allow: "),
+        "empty": built(list(PLAIN.items())).removesuffix("\r\n") + "k:\r\n" * 80 + "\r\n",
+    }
     for shape in SHAPES:
         for length in LENGTHS:
             messages[f"{shape}-{length}"] = shaped(shape, length)

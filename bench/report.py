@@ -16,11 +16,16 @@ END = "<!-- bench/run writes up to here -->"
 NAMES = ["mishkolar", "second", "osip", "sofia"]
 TITLES = {"mishkolar": "Mishkolar", "second": "second", "osip": "libosip2", "sofia": "sofia-sip"}
 COLOURS = {"mishkolar": "#0b5fa5", "second": "#7a7a7a", "osip": "#c2571a", "sofia": "#2d7d46"}
-SHAPES = ["folds", "quoted", "parameters", "tags", "fields"]
+SHAPES = ["folds", "quoted", "parameters", "bare", "folded", "tags", "fields"]
 WORDS = {
     "call": "the build description's call", "invite": "INVITE with a body", "folds": "folds", "quoted": "one quoted string", "parameters": "parameters",
-    "tags": "required tags", "fields": "96 fields",
+    "bare": "short parameters", "folded": "a fold before each parameter", "tags": "required tags", "fields": "96 fields", "empty": "80 empty fields",
+    "refused-3": "the INVITE refused early: start line", "refused-4": "refused in the middle: a field without colon", "refused-12": "refused late: no Allow",
+    "calling": "calling number", "count": "count of Via", "reading": "reading of the first Via",
 }
+# Tasks of the library alone, and those that judge: a refusal is their answer.
+ALONE = ["calling", "count", "reading"]
+JUDGES = ["mishkolar", "second"]
 LENGTHS = [1000, 2000, 3000, 4000, 6000, 8192]
 
 
@@ -41,7 +46,7 @@ def instructions(dump):
 
 
 def read(counts, dumps, times):
-    """Instructions and nanoseconds by message and implementation; None where the message is not taken."""
+    """Instructions and nanoseconds by message and task; None where the message is not taken, unless it is meant to be refused."""
     result = {}
     for file, key in ((counts, "instructions"), (times, "nanoseconds")):
         with open(file) as f:
@@ -49,7 +54,8 @@ def read(counts, dumps, times):
                 path, name, taken, number = line.split()
                 message = os.path.basename(path)
                 number = instructions(f"{dumps}.{number}") if key == "instructions" else int(number)
-                result[(message, name, key)] = number if taken == "1" else None
+                answered = taken == "1" or (message.startswith("refused-") and name in JUDGES)
+                result[(message, name, key)] = number if answered else None
     return result
 
 
@@ -62,8 +68,23 @@ def ratio(result, message, name, key):
     return "-" if not own or other is None else f"{other / own:.2f}"
 
 
-def order():
-    return ["call", "invite"] + [f"{shape}-{length}" for shape in SHAPES for length in LENGTHS]
+def words(message):
+    return WORDS[message] if message in WORDS else WORDS[message.split("-")[0]]
+
+
+def row_of_all(result, folder, message, key):
+    size = os.path.getsize(os.path.join(folder, message))
+    own = result[(message, "mishkolar", key)]
+    cells = [words(message), f"{size:,}"] + [number(result[(message, name, key)]) for name in NAMES]
+    cells.append("-" if own is None else f"{own / size:.1f}")
+    return cells + [ratio(result, message, name, key) for name in NAMES[1:]]
+
+
+def row_of_alone(result, folder, message, task, key):
+    """A function of the library alone: the other cells are empty."""
+    size = os.path.getsize(os.path.join(folder, message))
+    own = result[(message, task, key)]
+    return [f"{WORDS[task]}: {words(message)}", f"{size:,}", number(own)] + [""] * 3 + ["-" if own is None else f"{own / size:.1f}"] + [""] * 3
 
 
 def table(result, folder, key):
@@ -71,15 +92,11 @@ def table(result, folder, key):
         "| Message | Bytes | " + " | ".join(TITLES[name] for name in NAMES) + " | Mishkolar for each byte | second / M. | libosip2 / M. | sofia-sip / M. |",
         "|---|--:|" + "--:|" * 8,
     ]
-    for message in order():
-        size = os.path.getsize(os.path.join(folder, message))
-        cells = [WORDS[message.split("-")[0]], f"{size:,}"]
-        cells += [number(result[(message, name, key)]) for name in NAMES]
-        own = result[(message, "mishkolar", key)]
-        cells.append("-" if own is None else f"{own / size:.1f}")
-        cells += [ratio(result, message, name, key) for name in NAMES[1:]]
-        lines.append("| " + " | ".join(cells) + " |")
-    return lines
+    rows = [row_of_all(result, folder, message, key) for message in ("call", "invite", "refused-3", "refused-4", "refused-12")]
+    rows += [row_of_alone(result, folder, message, task, key) for task in ALONE for message in ("call", "invite")]
+    shaped = ["empty"] + [f"{shape}-{length}" for shape in SHAPES for length in LENGTHS]
+    rows += [row_of_all(result, folder, message, key) for message in shaped]
+    return lines + ["| " + " | ".join(cells) + " |" for cells in rows]
 
 
 def package(name):
@@ -103,7 +120,7 @@ def machine():
 
 def document(result, folder):
     lines = [""] + machine()
-    lines += ["", "Instructions of one screening (or one parsing and writing), counted by callgrind inside the measured function:", ""]
+    lines += ["", "Instructions of one screening (or one parsing and writing, or the function named), counted by callgrind inside the measured function:", ""]
     lines += table(result, folder, "instructions")
     lines += ["", "Nanoseconds, the median of 201 batches of at least 50 microseconds each:", ""]
     lines += table(result, folder, "nanoseconds")
@@ -124,6 +141,7 @@ def put_between_markers(path, lines):
 # The plot: one panel for each shape, one line for each implementation, both axes from the smallest to the largest number met.
 
 PANEL_WIDTH, PANEL_HEIGHT, LEFT, TOP, GAP_X, GAP_Y = 270, 190, 60, 60, 70, 70
+COLUMNS = 3
 
 
 class Axes:
@@ -179,15 +197,17 @@ def plot(result, path):
             points[shape][name] = [(length, value) for length, value in values if value]
     every = [value for lines in points.values() for values in lines.values() for _, value in values]
     low, high = min(every) / 1.3, max(every) * 1.3
-    width, height = LEFT + 3 * PANEL_WIDTH + 2 * GAP_X + 30, TOP + 2 * PANEL_HEIGHT + GAP_Y + 50
+    # The cell after the last panel is the legend's.
+    rows = len(SHAPES) // COLUMNS + 1
+    width, height = LEFT + COLUMNS * (PANEL_WIDTH + GAP_X) - GAP_X + 30, TOP + rows * (PANEL_HEIGHT + GAP_Y) - GAP_Y + 50
     out = [
         f'<svg xmlns="http://www.w3.org/2000/svg" width="{width}" height="{height}" viewBox="0 0 {width} {height}" font-family="sans-serif">',
         f'<rect width="{width}" height="{height}" fill="#ffffff"/>',
         text(width / 2, 24, "Instructions of one call against the length of the message in bytes (logarithmic upwards)", size=15),
     ]
     for place, shape in enumerate(SHAPES):
-        out += panel(Axes(place % 3, place // 3, low, high), shape, points[shape])
-    corner = Axes(2, 1, low, high)
+        out += panel(Axes(place % COLUMNS, place // COLUMNS, low, high), shape, points[shape])
+    corner = Axes(len(SHAPES) % COLUMNS, len(SHAPES) // COLUMNS, low, high)
     for place, name in enumerate(NAMES):
         y = corner.y0 + 30 + place * 26
         out.append(line(corner.x0 + 20, y, corner.x0 + 60, y, COLOURS[name], 3))

@@ -15,6 +15,9 @@
 extern "C" {
 #endif
 
+/* No function takes more than so many bytes of stack, its return address included. That is measured, not proved (tests/stack/run). */
+#define MISHKOLAR_STACK 12000
+
 /*
  * Screens one SIP request that goes to a peer on a side: 0 trusted, 1 untrusted.
  *

@@ -5,7 +5,7 @@ mod library;
 mod messages;
 
 use guarded::{Against, Guarded};
-use second::drafts::Dice;
+use second::drafts::{Dice, Draft};
 use std::io::{IsTerminal, Write};
 use std::process::exit;
 use std::sync::atomic::{AtomicPtr, AtomicUsize, Ordering};
@@ -22,7 +22,8 @@ struct Bench {
     trunk: Guarded,
     out: Guarded,
     by_reason: [u64; 17],
-    by_function: [(&'static str, u64); 8],
+    by_function: [(&'static str, u64); 9],
+    by_kind: [(&'static str, u64); 5],
 }
 
 /// One call of `screen`: what goes in beside the message.
@@ -51,6 +52,7 @@ fn main() {
     bench.causes();
     bench.nothing_at_all();
     bench.recorded();
+    bench.odd_bytes();
     let mut dice = Dice::new(seed);
     let mut progress = Progress::new(count);
     for done in 0..count {
@@ -73,7 +75,10 @@ impl Bench {
             trunk: Guarded::new(MOST_TRUNK),
             out: Guarded::new(MOST_ROOM),
             by_reason: [0; 17],
-            by_function: ["screen", "count", "reading", "calling_number", "status_of_cause", "cause_of_status", "screen, names and extra fields changed", "screen, recorded cases"].map(|name| (name, 0)),
+            by_function: ["screen", "count", "reading", "calling_number", "status_of_cause", "cause_of_status", "screen, names and extra fields changed", "screen, recorded cases", "screen, an odd byte at every place"].map(|name| (name, 0)),
+            by_kind: [
+                "withheld on side 1, From folded", "number of a folded identity", "the same, over 256 bytes", "the same, over 2,000 bytes", "ends in a name or behind it",
+            ].map(|name| (name, 0)),
         }
     }
 
@@ -103,12 +108,31 @@ impl Bench {
         }
     }
 
+    /// Values at and beside multiples of 16 bytes, each odd byte at each place, in the last field: through all functions.
+    fn odd_bytes(&mut self) {
+        let plain = Draft::least(0);
+        for carrier in &messages::CARRIERS {
+            for length in [1, 15, 16, 17, 31, 32, 33, 47, 48, 49, 63, 64, 65] {
+                for (place, odd) in (0..length).flat_map(|place| messages::ODD_BYTES.map(|odd| (place, odd))) {
+                    let message = messages::carrying(&plain, carrier, length, place, odd, place % messages::BLANKS.len()).bytes();
+                    self.by_function[8].1 += 1;
+                    self.screen(&message, Lent { side: place as u64 % 2, room: 9216, filling: 0x5A, against: Against::End });
+                    self.reading(&message, Against::End, carrier.0, 1);
+                    self.calling_with(&message, b"+33999999999", Against::End);
+                }
+            }
+        }
+    }
+
     /// One message through all functions.
     fn one(&mut self, dice: &mut Dice) {
         let draft = messages::draft(dice);
         let mut message = draft.bytes();
         if dice.one_in(3) {
             messages::damage(dice, &mut message);
+        } else if dice.one_in(40) {
+            messages::cut_in_a_name(dice, &mut message);
+            self.by_kind[4].1 += 1;
         } else if dice.one_in(50) {
             message = messages::noise(dice);
         } else if dice.one_in(2) {
@@ -120,6 +144,9 @@ impl Bench {
         let lent = self.lent(dice, &message);
         let numbers = self.screen(&message, lent);
         self.by_reason[numbers[0] as usize] += 1;
+        if numbers[0] == 0 && lent.side == 1 && folded_length(&message, 3) > 0 && self.out.part(lent.room, lent.against).windows(21).any(|part| part == b"\"Anonymous\" <sip:anon") {
+            self.by_kind[0].1 += 1;
+        }
         self.readings(dice, &message, lent.against);
         self.calling(dice, &message, lent.against);
         let number = if dice.one_in(10) { dice.number() } else { dice.below(800) as u64 };
@@ -161,7 +188,7 @@ impl Bench {
     }
 
     /// Harmless fields and other names: the same numbers and the same buffer, library against library, and the second one too.
-    fn demand_3(&mut self, dice: &mut Dice, draft: &second::drafts::Draft, message: &[u8]) {
+    fn demand_3(&mut self, dice: &mut Dice, draft: &Draft, message: &[u8]) {
         let changed = messages::changed(dice, draft).bytes();
         // A fault can leave an empty line inside a drafted field; what comes after it is body, and no longer a field to be renamed.
         let as_drafted = |bytes: &[u8]| second::lines::read(bytes).is_ok_and(|lines| lines.rest == draft.body);
@@ -179,10 +206,10 @@ impl Bench {
     }
 
     fn readings(&mut self, dice: &mut Dice, message: &[u8], against: Against) {
-        let guarded = self.message.copy(message, against);
         // All numbers for some messages; for the others a few.
         let fields: Vec<u64> = if dice.one_in(16) { FIELDS.to_vec() } else { vec![*dice.pick(&FIELDS), 1 + dice.below(18) as u64] };
         for field in fields {
+            let guarded = self.message.copy(message, against);
             NOW.set("count", guarded);
             self.by_function[1].1 += 1;
             let count = library::count(guarded, field);
@@ -190,12 +217,19 @@ impl Bench {
             let places = [0, 1, 2, count as u64, count as u64 + 1, u64::MAX, 1 << 32];
             let few = if dice.one_in(8) { &places[..] } else { &places[1..2] };
             for &place in few {
-                NOW.set("reading", guarded);
-                self.by_function[2].1 += 1;
-                let part = library::reading(guarded, field, place);
-                same("reading (start, length)", &part, &second::reading(message, field, place), message, &format!("field {field}, place {place}"));
+                self.reading(message, against, field, place);
             }
         }
+    }
+
+    /// One reading, which is a part of the message.
+    fn reading(&mut self, message: &[u8], against: Against, field: u64, place: u64) {
+        let guarded = self.message.copy(message, against);
+        NOW.set("reading", guarded);
+        self.by_function[2].1 += 1;
+        let part = library::reading(guarded, field, place);
+        within("reading", part, message, message);
+        same("reading (start, length)", &part, &second::reading(message, field, place), message, &format!("field {field}, place {place}"));
     }
 
     fn calling(&mut self, dice: &mut Dice, message: &[u8], against: Against) {
@@ -204,14 +238,24 @@ impl Bench {
             b"+1234567 ", b"++1234567", b"+12345678901234567890123456789012345678901234567890", b"+33999999998",
         ];
         let trunk = if dice.one_in(3) { *dice.pick(&trunks) } else { trunks[0] };
+        self.calling_with(message, trunk, against);
+    }
+
+    /// The calling number, which is a part of the message or of the trunk number.
+    fn calling_with(&mut self, message: &[u8], trunk: &[u8], against: Against) {
         let guarded = self.message.copy(message, against);
         let lent = self.trunk.copy(trunk, against);
         NOW.set("calling_number", guarded);
         self.by_function[3].1 += 1;
         let part = library::calling_number(guarded, lent);
+        within("calling_number", (part.1, part.2), if part.0 == 1 { trunk } else { message }, message);
         let wanted = second::calling_number(message, trunk);
         let wanted = (u64::from(wanted.from_trunk), wanted.start, wanted.length);
         same("calling_number (from trunk, start, length)", &part, &wanted, message, &format!("trunk {}", escaped(trunk)));
+        let identity = if part.0 == 0 && part.2 > 0 { folded_length(message, 15) } else { 0 };
+        self.by_kind[1].1 += u64::from(identity > 0);
+        self.by_kind[2].1 += u64::from(identity > 256);
+        self.by_kind[3].1 += u64::from(identity > 2000);
     }
 
     fn report(&self, seed: u64, count: u64) {
@@ -222,11 +266,29 @@ impl Bench {
         for (reason, messages) in self.by_reason.iter().enumerate() {
             println!("{messages:>12}  reason {reason}");
         }
-        let never: Vec<usize> = (0..17).filter(|&reason| self.by_reason[reason] == 0).collect();
+        for (name, messages) in &self.by_kind {
+            println!("{messages:>12}  {name}");
+        }
+        let reasons = (0..17).filter(|&reason| self.by_reason[reason] == 0).map(|reason| format!("reason {reason}"));
+        let kinds = self.by_kind.iter().filter(|kind| kind.1 == 0).map(|kind| kind.0.to_string());
+        let never: Vec<String> = reasons.chain(kinds).collect();
         if count >= 100_000 && !never.is_empty() {
-            println!("reasons never reached: {never:?}");
+            println!("never reached: {never:?}");
             exit(1);
         }
+    }
+}
+
+/// The length of the first value of this number where a line break stands in it, else 0.
+fn folded_length(message: &[u8], field: u64) -> usize {
+    let (start, length) = second::reading(message, field, 1);
+    if message[start..start + length].contains(&b'\n') { length } else { 0 }
+}
+
+/// A part that is handed out must lie inside the whole.
+fn within(what: &str, (start, length): (usize, usize), whole: &[u8], message: &[u8]) {
+    if start.checked_add(length).is_none_or(|end| end > whole.len()) {
+        differs(&format!("{what}: the part is not inside"), &format!("{start} and {length}"), &format!("at most {}", whole.len()), message, "");
     }
 }
 

@@ -24,15 +24,45 @@ pub fn draft(dice: &mut Dice) -> Draft {
         draft.fields.insert(place, extra);
     }
     body(dice, &mut draft);
+    if column < 2 && dice.one_in(10) {
+        withhold(dice, &mut draft);
+    }
+    if column < 2 && dice.one_in(10) {
+        let value = folded_identity(dice);
+        draft.set(15, &value);
+    }
     if dice.one_in(2) {
         for _ in 0..1 + dice.below(2) {
             fault(dice, &mut draft, column);
         }
     }
+    if dice.one_in(12) {
+        near_miss(dice, &mut draft);
+    }
+    if dice.one_in(40) {
+        let (length, place) = odd_place(dice);
+        let carrier = dice.pick(&CARRIERS);
+        draft = carrying(&draft, carrier, length, place, *dice.pick(&ODD_BYTES), dice.below(BLANKS.len()));
+    }
     if dice.one_in(60) {
         stretch(dice, &mut draft);
     }
     draft
+}
+
+/// The message with its end in the name of a listed field, or directly behind it.
+pub fn cut_in_a_name(dice: &mut Dice, message: &mut Vec<u8>) {
+    let line_ends: Vec<usize> = (2..=message.len()).filter(|&end| message[..end].ends_with(b"\r\n")).collect();
+    if line_ends.is_empty() {
+        return;
+    }
+    message.truncate(*dice.pick(&line_ends));
+    let row = dice.pick(&ROWS);
+    let name = if row.compact.is_empty() || !dice.one_in(4) { row.name } else { row.compact };
+    let behind = *dice.pick(&["", "", "", ":", " ", ": ", "\r", ":\r", ":\r\n"]);
+    let whole = [name, behind].concat();
+    let length = if dice.one_in(2) { whole.len() } else { 1 + dice.below(whole.len()) };
+    message.extend(&whole.as_bytes()[..length]);
 }
 
 /// The bytes with a few of them damaged.
@@ -72,11 +102,130 @@ pub fn noise(dice: &mut Dice) -> Vec<u8> {
 }
 
 fn field(dice: &mut Dice, number: u64, column: usize) -> Whole {
-    let name = profile::row_of_number(number).map_or("X", |row| row.name);
-    let mut rest = dice.pick(&[": ", ":", " :", "\t: \t", ":\r\n ", ": \r\n\t\r\n "]).as_bytes().to_vec();
+    let name = profile::row_of_number(number).map_or("X", |row| row.name).as_bytes();
+    let name = if dice.one_in(3) { renamed(dice, name) } else { name.to_vec() };
+    let mut rest = if dice.one_in(3) { pick(dice, &[" :", "\t: \t", ":\r\n ", ": \r\n\t\r\n "]) } else { pick(dice, &BLANKS) };
     rest.extend(value(dice, number, column));
-    rest.extend(dice.pick(&["\r\n", "\r\n", "\r\n", " \t\r\n", "\r\n \r\n"]).as_bytes());
-    Whole { name: renamed(dice, name.as_bytes()), rest }
+    rest.extend(if dice.one_in(3) { pick(dice, &[" \r\n", "  \r\n", "\t\r\n", " \t\r\n", "\r\n \r\n"]) } else { b"\r\n".to_vec() });
+    Whole { name, rest }
+}
+
+/// A colon and the blanks that mostly follow it.
+pub const BLANKS: [&str; 4] = [":", ": ", ":  ", ":\t"];
+
+/// Names that are nearly those of listed fields, or listed ones that nearly are not.
+fn near_miss(dice: &mut Dice, draft: &mut Draft) {
+    if draft.fields.is_empty() {
+        return;
+    }
+    let place = dice.below(draft.fields.len());
+    let near = near_name(dice, &draft.fields[place]);
+    if dice.one_in(2) {
+        draft.fields[place] = near;
+    } else {
+        draft.fields.insert(place, near);
+    }
+}
+
+fn near_name(dice: &mut Dice, field: &Whole) -> Whole {
+    let (mut name, mut rest) = (field.name.clone(), field.rest.clone());
+    let place = dice.below(name.len());
+    match dice.below(7) {
+        0 => rest.insert(0, *dice.pick(b" \t")),
+        1 => name[place] ^= 32,
+        2 => name.push(*dice.pick(b"xX-s")),
+        3 => name.insert(0, *dice.pick(b"xX-")),
+        4 => {
+            name.remove(place);
+        }
+        5 => rest.retain(|&byte| byte != b':'),
+        _ => name[place] = *dice.pick(b"xe-o\x00\x80"),
+    }
+    if name.is_empty() {
+        name.push(b'x');
+    }
+    Whole { name, rest }
+}
+
+/// What carries a value with an odd byte: the number of the field, 0 for one that is not listed, and what stands around the value.
+pub const CARRIERS: [(u64, &str, &str); 8] = [
+    (0, "", ""), (1, "", ""), (3, "\"", "\" <sip:h>;tag=1"), (3, "<sip:h>;tag=1;a=", ""), (5, "", ""), (14, "timer,", ""), (15, "\"", "\" <sip:+1234567@h>"), (16, "id;", ""),
+];
+
+/// Bytes at the borders of what a value may hold.
+pub const ODD_BYTES: [u8; 5] = [0, 31, 127, 128, 255];
+
+/// A length at or beside a multiple of 16, and a place in it.
+fn odd_place(dice: &mut Dice) -> (usize, usize) {
+    let times = if dice.one_in(4) { 1 + dice.below(450) } else { 1 + dice.below(20) };
+    let length = times * 16 + dice.below(3) - 1;
+    (length, dice.below(length))
+}
+
+/// The same, with a last field that carries a value of so many bytes, the one at the place odd.
+pub fn carrying(draft: &Draft, &(number, front, back): &(u64, &str, &str), length: usize, place: usize, odd: u8, blanks: usize) -> Draft {
+    let mut value = vec![b'a'; length];
+    value[place] = odd;
+    let mut out = if number == 0 { draft.clone() } else { draft.without(number) };
+    let name = profile::row_of_number(number).map_or("X-Odd", |row| row.name);
+    out.fields.push(Whole { name: name.into(), rest: [BLANKS[blanks].as_bytes(), front.as_bytes(), &value, back.as_bytes(), b"\r\n"].concat() });
+    out
+}
+
+fn fold(dice: &mut Dice) -> Vec<u8> {
+    pick(dice, &["\r\n ", "\r\n\t", " \r\n ", "\t\r\n \r\n  "])
+}
+
+/// Letters with at least one fold in them, of so many bytes or a few more.
+fn folded_text(dice: &mut Dice, length: usize) -> Vec<u8> {
+    let often = *dice.pick(&[2, 5, 50, 5000]);
+    let mut out = b"a".to_vec();
+    let folded_at = dice.below(length.max(1));
+    let mut folded = false;
+    while out.len() < length || !folded {
+        if dice.one_in(often) || (!folded && out.len() >= folded_at) {
+            out.extend(fold(dice));
+            folded = true;
+        }
+        out.push(b'a');
+    }
+    out
+}
+
+/// Short, at 256 bytes, at 2,048 bytes, or anything up to 5,000.
+fn folded_length(dice: &mut Dice) -> usize {
+    match dice.below(6) {
+        0 => 240 + dice.below(24),
+        1 => 2030 + dice.below(24),
+        2 => dice.below(5000),
+        _ => dice.below(60),
+    }
+}
+
+/// An identity with a fold before its number, behind it, or in its display name.
+fn folded_identity(dice: &mut Dice) -> Vec<u8> {
+    let number = full_number(dice);
+    let length = folded_length(dice);
+    let text = folded_text(dice, length);
+    match dice.below(5) {
+        0 => [&text[..], b" <tel:", number.as_bytes(), b">"].concat(),
+        1 => [&fold(dice).repeat(1 + length / 8)[..], b"sip:", number.as_bytes(), b"@h"].concat(),
+        2 => [&b"<sip:"[..], number.as_bytes(), b"@h>", &fold(dice).repeat(1 + length / 8)].concat(),
+        3 => [&b"a"[..], &fold(dice).repeat(1 + length / 8), b"<sip:", number.as_bytes(), b"@h>"].concat(),
+        _ => [&b"\""[..], &text, b"\"", &fold(dice), b"<sip:", number.as_bytes(), b"@h;x>"].concat(),
+    }
+}
+
+/// A caller who is withheld, with folds in From before, around or behind its tag.
+fn withhold(dice: &mut Dice, draft: &mut Draft) {
+    let length = folded_length(dice);
+    let display = if dice.one_in(2) { [&b"\""[..], &folded_text(dice, length), b"\" "].concat() } else { Vec::new() };
+    let more = if dice.one_in(2) { [fold(dice), b";a".to_vec()].concat().repeat(dice.below(1 + length / 6)) } else { Vec::new() };
+    let tag = [fold(dice), b";".to_vec(), blanks(dice), in_any_case(dice, b"tag"), blanks(dice), b"=".to_vec(), blanks(dice), text(dice, 64, is_token)].concat();
+    let parameters = if dice.one_in(2) { [tag, more] } else { [more, tag] }.concat();
+    draft.set(3, &[display, b"<sip:a@h>".to_vec(), parameters].concat());
+    let privacy = pick(dice, &["id", "ID", "none;id", "id;\r\n user", "none\r\n ;\r\n iD"]);
+    draft.set(16, &privacy);
 }
 
 fn pick(dice: &mut Dice, list: &[&str]) -> Vec<u8> {

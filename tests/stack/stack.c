@@ -1,0 +1,309 @@
+/* Calls every function of include/mishkolar.h on a stack of SIZE bytes against a page that must not be touched. See `run` beside it. */
+#include <stdio.h>
+#include <stdlib.h>
+#include <string.h>
+#include <sys/mman.h>
+#include <sys/resource.h>
+#include <sys/wait.h>
+#include <unistd.h>
+
+#include "messages.h"
+#include "mishkolar.h"
+
+#ifndef SIZE
+#define SIZE MISHKOLAR_STACK
+#endif
+/* On this one the use is measured. */
+#define PLENTY 32768
+#define FORBIDDEN 262144
+#define PAGE 4096
+#define ROOM 16384
+#define MOST_TOLD 5
+
+_Static_assert(SIZE % 16 == 0 && SIZE > 0 && SIZE <= PLENTY, "a stack pointer is a multiple of 16 at a call");
+
+/*
+ * Calls the function with the stack pointer at top. The seventh and later arguments already stand there; what the call itself pushes and
+ * all below is the function's use.
+ */
+uint64_t call_at(uint8_t *top, const void *function, const uint64_t *arguments);
+__asm__(".text\n"
+        ".type call_at, @function\n"
+        "call_at:\n"
+        "    push %rbp\n"
+        "    mov %rsp, %rbp\n"
+        "    mov %rdi, %rsp\n"
+        "    mov %rsi, %rax\n"
+        "    mov %rdx, %r10\n"
+        "    mov (%r10), %rdi\n"
+        "    mov 8(%r10), %rsi\n"
+        "    mov 16(%r10), %rdx\n"
+        "    mov 24(%r10), %rcx\n"
+        "    mov 32(%r10), %r8\n"
+        "    mov 40(%r10), %r9\n"
+        "    call *%rax\n"
+        "    mov %rbp, %rsp\n"
+        "    pop %rbp\n"
+        "    ret\n"
+        ".size call_at, . - call_at\n");
+
+struct stack {
+    uint8_t *low, *top;
+};
+
+static struct stack tight, plenty;
+
+static struct stack new_stack(size_t size)
+{
+    size_t open = (size + 64 + PAGE - 1) / PAGE * PAGE;
+    uint8_t *all = mmap(NULL, FORBIDDEN + open, PROT_NONE, MAP_PRIVATE | MAP_ANONYMOUS, -1, 0);
+
+    if (all == MAP_FAILED || mprotect(all + FORBIDDEN, open, PROT_READ | PROT_WRITE) != 0) {
+        perror("a stack");
+        exit(2);
+    }
+    return (struct stack){ all + FORBIDDEN, all + FORBIDDEN + size };
+}
+
+/* What a child tells: the message and call under way, the largest use so far and at which call, the reasons met, and that all was tried. */
+struct note {
+    char doing[200], most_at[200];
+    size_t place, most;
+    unsigned reason, reasons;
+    int on_tight, ended;
+};
+
+static struct note *note;
+
+/* One call: a function with its arguments. */
+struct call {
+    const void *function;
+    uint64_t arguments[9];
+};
+
+static uint64_t done_on(const struct stack *stack, const struct call *call)
+{
+    memcpy(stack->top, call->arguments + 6, 3 * sizeof call->arguments[0]);
+    return call_at(stack->top, call->function, call->arguments);
+}
+
+/* How many bytes below the stack pointer are written, with this paint under them. */
+static size_t written(const struct call *call, uint8_t paint)
+{
+    static uint8_t painted[256];
+    uint8_t *at = plenty.low;
+
+    memset(painted, paint, sizeof painted);
+    memset(plenty.low, paint, PLENTY);
+    done_on(&plenty, call);
+    while (plenty.top - at >= (ptrdiff_t)sizeof painted && memcmp(at, painted, sizeof painted) == 0)
+        at += sizeof painted;
+    while (at < plenty.top && *at == paint)
+        at++;
+    return (size_t)(plenty.top - at);
+}
+
+/* The call, on the tight stack or measured with two paints: a byte that is written with the one differs from the other. */
+static void try(const struct call *call)
+{
+    size_t a, b;
+
+    if (note->on_tight) {
+        done_on(&tight, call);
+        return;
+    }
+    a = written(call, 0x5a);
+    b = written(call, 0xc3);
+    if (a < b)
+        a = b;
+    if (a > note->most) {
+        note->most = a;
+        memcpy(note->most_at, note->doing, sizeof note->doing);
+    }
+}
+
+#define NUMBER(x) ((uint64_t)(uintptr_t)(x))
+#define DOING(...) snprintf(note->doing, sizeof note->doing, __VA_ARGS__)
+
+static uint8_t out[ROOM];
+static uint64_t answers[4];
+
+static void try_screen(const struct message *m)
+{
+    static const uint64_t sides[] = { 1, 0, 2 };
+    size_t i, j;
+
+    for (i = 0; i < 3; i++) {
+        size_t need = mishkolar_screen(m->bytes, m->len, sides[i], out, ROOM, answers, answers + 1, answers + 2, answers + 3);
+        size_t rooms[] = { ROOM, 9216, need, need == 0 ? 0 : need - 1, 0 };
+        if (i == 0)
+            note->reason = (unsigned)answers[0];
+        for (j = 0; j < sizeof rooms / sizeof rooms[0]; j++) {
+            struct call call = { mishkolar_screen, { NUMBER(m->bytes), m->len, sides[i], NUMBER(out), rooms[j], NUMBER(answers), NUMBER(answers + 1), NUMBER(answers + 2), NUMBER(answers + 3) } };
+            DOING("%s, side %d, room %zu", m->name, (int)sides[i], rooms[j]);
+            try(&call);
+            note->reasons |= 1u << answers[0];
+        }
+    }
+}
+
+/* Not listed, the first, one that may be withheld, one that repeats, the last, not listed. */
+static const uint64_t fields[] = { 0, 1, 3, 13, 18, 19 };
+
+static void try_count(const struct message *m)
+{
+    size_t i;
+
+    for (i = 0; i < sizeof fields / sizeof fields[0]; i++) {
+        struct call call = { mishkolar_count, { NUMBER(m->bytes), m->len, fields[i] } };
+        DOING("%s, field %d", m->name, (int)fields[i]);
+        try(&call);
+    }
+}
+
+static void try_reading(const struct message *m)
+{
+    static const uint64_t places[] = { 0, 1, 80 };
+    size_t i, j;
+
+    for (i = 0; i < sizeof fields / sizeof fields[0]; i++)
+        for (j = 0; j < sizeof places / sizeof places[0]; j++) {
+            struct call call = { mishkolar_reading, { NUMBER(m->bytes), m->len, fields[i], places[j], NUMBER(answers) } };
+            DOING("%s, field %d, place %d", m->name, (int)fields[i], (int)places[j]);
+            try(&call);
+        }
+}
+
+static void try_calling_number(const struct message *m)
+{
+    static const char *const trunks[] = { "+33999999999", "+123456789012345", "+123456", "x", "" };
+    size_t i;
+
+    for (i = 0; i < sizeof trunks / sizeof trunks[0]; i++) {
+        struct call call = { mishkolar_calling_number, { NUMBER(m->bytes), m->len, NUMBER(trunks[i]), strlen(trunks[i]), NUMBER(answers), NUMBER(answers + 1) } };
+        DOING("%s, trunk number \"%s\"", m->name, trunks[i]);
+        try(&call);
+    }
+}
+
+static void try_causes(const void *function)
+{
+    uint64_t number;
+
+    for (number = 0; number < 1000; number++) {
+        struct call call = { function, { number < 990 ? number : UINT64_MAX - number, NUMBER(answers) } };
+        DOING("%lld", (long long)call.arguments[0]);
+        try(&call);
+    }
+}
+
+static void try_status_of_cause(const struct message *m)
+{
+    (void)m;
+    try_causes(mishkolar_status_of_cause);
+}
+
+static void try_cause_of_status(const struct message *m)
+{
+    (void)m;
+    try_causes(mishkolar_cause_of_status);
+}
+
+/* Every function of the header; those of causes take no message. */
+static const struct {
+    const char *name;
+    void (*try)(const struct message *m);
+    int of_messages;
+} functions[] = {
+    { "mishkolar_screen", try_screen, 1 },
+    { "mishkolar_count", try_count, 1 },
+    { "mishkolar_reading", try_reading, 1 },
+    { "mishkolar_calling_number", try_calling_number, 1 },
+    { "mishkolar_status_of_cause", try_status_of_cause, 0 },
+    { "mishkolar_cause_of_status", try_cause_of_status, 0 },
+};
+#define FUNCTIONS (sizeof functions / sizeof functions[0])
+
+/* All calls of one function on the messages from this one on, each first measured, then on the tight stack. */
+static void try_from(size_t function, size_t place, size_t count)
+{
+    for (; place < count; place++) {
+        note->place = place;
+        alarm(60);
+        for (note->on_tight = 0; note->on_tight < 2; note->on_tight++)
+            functions[function].try(&messages[place]);
+        if (functions[function].try == try_screen && messages[place].reason != ANY_REASON && messages[place].reason != note->reason) {
+            printf("%s has the reason %u and not %u\n", messages[place].name, note->reason, messages[place].reason);
+            exit(1);
+        }
+    }
+    note->ended = 1;
+    _exit(0);
+}
+
+/* The same in a process of its own: the signal that ended it, or 0. */
+static int in_child(size_t function, size_t place, size_t count)
+{
+    static const struct rlimit none = { 0, 0 };
+    int status = 0;
+    pid_t child;
+
+    fflush(stdout);
+    child = fork();
+    if (child == 0) {
+        setrlimit(RLIMIT_CORE, &none);
+        try_from(function, place, count);
+    }
+    if (child < 0 || waitpid(child, &status, 0) != child) {
+        perror("a process");
+        exit(2);
+    }
+    return WIFSIGNALED(status) ? WTERMSIG(status) : 0;
+}
+
+/* On how many inputs the function failed. After a failure the next message is tried in a new process. */
+static size_t failures_of(size_t function)
+{
+    size_t count = functions[function].of_messages ? message_count : 1, failed = 0, place = 0;
+
+    note->most = 0;
+    note->ended = 0;
+    while (place < count) {
+        int number = in_child(function, place, count);
+        if (note->ended)
+            break;
+        if (failed++ < MOST_TOLD && number != 0)
+            printf("%s FAILED (signal %d) on a stack of %d bytes: %s\n", functions[function].name, number, note->on_tight == 1 ? SIZE : PLENTY, note->doing);
+        place = note->place + 1;
+    }
+    printf("%-26s %6zu bytes at most, at: %s\n", functions[function].name, note->most, note->most_at);
+    if (failed != 0)
+        printf("%-26s FAILED on %zu of %zu inputs\n", functions[function].name, failed, count);
+    return failed;
+}
+
+int main(int argc, char **argv)
+{
+    size_t function, failures = 0;
+    int i;
+
+    make_messages();
+    for (i = 1; i < argc; i++)
+        read_recorded(argv[i]);
+    tight = new_stack(SIZE);
+    plenty = new_stack(PLENTY);
+    note = mmap(NULL, sizeof *note, PROT_READ | PROT_WRITE, MAP_SHARED | MAP_ANONYMOUS, -1, 0);
+    if (note == MAP_FAILED) {
+        perror("mmap");
+        return 2;
+    }
+    printf("a stack of %d bytes, %zu messages\n", SIZE, message_count);
+    for (function = 0; function < FUNCTIONS; function++)
+        failures += failures_of(function);
+    if (note->reasons != (1u << 17) - 1) {
+        printf("not every reason was met\n");
+        failures++;
+    }
+    printf(failures == 0 ? "no function took more\n" : "FAILED\n");
+    return failures != 0;
+}
