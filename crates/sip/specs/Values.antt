@@ -276,7 +276,7 @@ firstPlace p n (t ∷ ts) = let later = firstPlace p (suc n) ts in cond (p t) (s
 unfoldable pub isPrivacy : List ℕ → Bool
 isPrivacy v = isList (tokens 59 0 v)
 
-abbrev anyToken : (List ℕ → Bool) → List (List ℕ) → Bool
+abbrev pub anyToken : (List ℕ → Bool) → List (List ℕ) → Bool
 anyToken p [] = false
 anyToken p (t ∷ ts) = p t || anyToken p ts
 
