@@ -1,7 +1,7 @@
 -- Document 01, "Values that are read", as a grammar: what a value is made of, in the page's words and RFC 3261's names. Nothing here
 -- reads: a value is derived from its parts, which are put together by `++`, and no rule says where a part ends but what the part itself
--- is. What each relation speaks of comes first, then the parts that it has. `GrammarPromises.antt`
--- says that the readers of `Values.antt` find exactly this.
+-- is. What each relation speaks of comes first, then the parts that it has. The readers of `Values.antt` find exactly this:
+-- `GrammarPromises.antt` says so.
 use mathlib.Core.Path.{_≡_}
 use mathlib.Core.Bool.{Bool, true, false}
 use mathlib.Core.List.{List, [], _∷_, _++_}
@@ -9,6 +9,9 @@ use Prim.Native.Nat.{ℕ, _+_, _≤_, _<_}
 use lib.ListN.{length}
 use Rattle.octets.specs.Classes.{text, among, isToken, isBlank, isDigit, isHex, isUser, isParameter, isHost, isVisible}
 use Rattle.octets.specs.Scans.{decimal}
+
+-- Bytes are written by their numbers: 34 is `"`, 37 `%`, 43 `+`, 44 `,`, 58 `:`, 59 `;`, 60 `<`, 61 `=`, 62 `>`, 64 `@`, 92 a backslash;
+-- 49 to 57 are the digits 1 to 9, 65 to 90 the capitals, which stand 32 before their small letters.
 
 -- ---- bytes
 
@@ -236,12 +239,12 @@ readFields = notEmpty ++ (2 ∷ 3 ∷ 4 ∷ 5 ∷ 6 ∷ 8 ∷ 14 ∷ 15 ∷ 16 �
 
 pub data Formed (method : List ℕ) : ℕ → List ℕ → Type 0 where
   some-value : {k : ℕ} {v : List ℕ} → among notEmpty k ≡ true → 1 ≤ length v → Formed method k v
-  forwards-value : {v : List ℕ} → MaxForwards v → Formed method 2 v
+  max-forwards-value : {v : List ℕ} → MaxForwards v → Formed method 2 v
   from-value : {v t : List ℕ} {u : UriParts} → Party v u (t ∷ []) → Formed method 3 v
   to-value : {v : List ℕ} {u : UriParts} {ts : List (List ℕ)} → Party v u ts → Formed method 4 v
   call-id-value : {v : List ℕ} → CallId v → Formed method 5 v
   cseq-value : {v : List ℕ} → CSeq method v → Formed method 6 v
-  length-value : {v : List ℕ} → ContentLength v → Formed method 8 v
+  content-length-value : {v : List ℕ} → ContentLength v → Formed method 8 v
   require-value : {v : List ℕ} {ts : List (List ℕ)} → Tokens 44 v ts → Formed method 14 v
   identity-value : {v n : List ℕ} → Identity v n → Formed method 15 v
   privacy-value : {v : List ℕ} {ts : List (List ℕ)} → Tokens 59 v ts → Formed method 16 v

@@ -1,6 +1,6 @@
 -- What the value readers answer, by document 01's definitions.
 use mathlib.Core.Bool.{Bool, cond}
-use mathlib.Core.List.{List, [], _∷_}
+use mathlib.Core.List.{List}
 use Prim.Native.Nat.{ℕ, _+_}
 use lib.ListN.{length, drop}
 use Rattle.octets.specs.Classes.{text, isUser}

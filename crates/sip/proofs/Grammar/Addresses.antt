@@ -2,14 +2,13 @@
 use mathlib.Core.Path.{_≡_, refl, _∙_, ap}
 use mathlib.Core.Bool.{Bool, true, false, cond}
 use mathlib.Core.List.{List, [], _∷_, _++_, append-assoc, append-nil}
-use mathlib.Core.Option.{some}
 use Prim.Native.Nat.{ℕ, _+_, _≤_, _-_}
 use native.Mathlib.Omega.{arith}
 use lib.Dec.{eqb}
 use lib.ListN.{length, drop, length-append}
 use lib.Seq.{drop-append-seam, drop-append-add}
 use borrow.Author.Tests.{eq-eqb}
-use Rattle.octets.specs.Classes.{isToken, text}
+use Rattle.octets.specs.Classes.{isToken}
 use Rattle.octets.specs.Scans.{all, starts, lower, sameText}
 use Rattle.sip.specs.declared.AddressAt.{AddressAt}
 use Rattle.sip.specs.declared.UriAt.{UriAt}
@@ -85,7 +84,7 @@ same-as x a e h =
     all-first isToken a [] (same-token (x ∷ []) (a ∷ []) q t)
 
 begins-with : (x y z : ℕ) (k r : List ℕ) → isToken x ≡ true → isToken y ≡ true → isToken z ≡ true → sameText (x ∷ y ∷ z ∷ 58 ∷ []) k ≡ true → length k ≡ 4 → Begins (k ++ r)
-unfolding lower all
+unfolding lower
 begins-with x y z [] r hx hy hz e l = absurd (omega arith)
 begins-with x y z (a ∷ []) r hx hy hz e l = absurd (omega arith)
 begins-with x y z (a ∷ b ∷ []) r hx hy hz e l = absurd (omega arith)
@@ -105,13 +104,13 @@ begins-with x y z (a ∷ b ∷ c ∷ d ∷ []) r hx hy hz e l =
     }
 
 begins : {s : List ℕ} {u : UriParts} → Uri s u → (r : List ℕ) → Begins (s ++ r)
-unfolding text isToken
+unfolding isToken
 begins (sip-uri {k} {a} {u} {h} {q} {d} {t} e us hs ps ts) r =
     rw (append-assoc k (a ++ (h ++ (q ++ t))) r) (begins-with 115 105 112 k _ refl refl refl (case-same e) (four-sip e))
 begins (tel-uri {k} {n} {t} e ds ts) r = rw (append-assoc k (n ++ t) r) (begins-with 116 101 108 k _ refl refl refl (case-same e) (four-tel e))
 
 no-bracket : (s : List ℕ) → Begins s → starts 60 (drop (display s) s) ≡ false
-unfolding all starts
+unfolding starts
 no-bracket s c =
     let n : List ℕ = c .name in
     let e : display (n ++ (58 ∷ c .others)) ≡ length n

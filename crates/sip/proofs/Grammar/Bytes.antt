@@ -46,7 +46,7 @@ abbrev pub isSmall : ℕ → Bool
 isSmall b = not (within 65 90 b)
 
 pub same-case : (word s : List ℕ) → all isSmall word ≡ true → sameText word s ≡ true → AnyCase word s
-unfolding sameText lower
+unfolding sameText
 same-case [] [] h e = case-end
 same-case [] (b ∷ s) h e = never (cc)
 same-case (c ∷ word) [] h e = never (cc)

@@ -9,7 +9,7 @@ use lib.ListN.{length, drop, length-append}
 use lib.Seq.{drop-append-seam}
 use borrow.Author.Tests.{ne-eqb}
 use Rattle.octets.specs.Classes.{isBlank, isToken}
-use Rattle.octets.specs.Scans.{run, all, starts, quoted}
+use Rattle.octets.specs.Scans.{run, all, quoted}
 use Rattle.octets.proofs.Runs.{run-nil, run-no, run-yes}
 use Rattle.sip.specs.Values.{display}
 use Rattle.sip.specs.Grammar.{Each, each-end, each-byte, QuotedString, Token, Words, last-word, word-and, DisplayName, no-name}
@@ -33,11 +33,9 @@ data NameView : List ℕ → Type 0 where
   name-here : {w b : List ℕ} → Words w → Each isBlank b → NameView (w ++ b)
 
 one-token : (c : ℕ) → isToken c ≡ true → Token (c ∷ [])
-unfolding all
 one-token c e = record { some = omega arith; bytes = each-byte e each-end }
 
 token-cons : (c : ℕ) (t : List ℕ) → isToken c ≡ true → Token t → Token (c ∷ t)
-unfolding all
 token-cons c t e h = record { some = omega arith; bytes = each-byte e (h .bytes) }
 
 words-cons : (c : ℕ) (w : List ℕ) → isToken c ≡ true → Words w → Words (c ∷ w)
@@ -51,20 +49,14 @@ push-token c _ e (then-words {b = a ∷ x} {w} {c = y} b d f) =
     let s : (c ∷ ((a ∷ x) ++ w)) ++ y ≡ c ∷ ((a ∷ x) ++ (w ++ y)) = ap (λ (l : List ℕ). c ∷ l) (append-assoc (a ∷ x) w y) in
     rw (← s) (name-here (word-and (one-token c e) b (omega arith) d) f)
 
-blank-cons : (c : ℕ) (b : List ℕ) → isBlank c ≡ true → Each isBlank b → Each isBlank (c ∷ b)
-unfolding all
-blank-cons c b e h = each-byte e h
-
 name-spaced : (x : List ℕ) → NameView x → Spaced x
-unfolding all
 name-spaced _ (name-here d f) = then-words {b = []} each-end d f
 
 push-blank : (c : ℕ) (x : List ℕ) → isBlank c ≡ true → Spaced x → Spaced (c ∷ x)
-push-blank c _ e (blanks-only {b} f) = blanks-only (blank-cons c b e f)
-push-blank c _ e (then-words {b} f d g) = then-words (blank-cons c b e f) d g
+push-blank c _ e (blanks-only f) = blanks-only (each-byte e f)
+push-blank c _ e (then-words f d g) = then-words (each-byte e f) d g
 
 spaced : (x : List ℕ) → all named x ≡ true → Spaced x
-unfolding all
 spaced [] e = blanks-only each-end
 spaced (c ∷ x) e = go (isToken c) refl (isBlank c) refl (all-first named c x e) (spaced x (all-others named c x e))
   where
@@ -112,7 +104,7 @@ pub record Ending (b : ℕ) : Type 0 where
   pub no-quote : b ≡ 34 → ⊥
 
 quoted-none : (b : ℕ) (s : List ℕ) → (b ≡ 34 → ⊥) → quoted (b ∷ s) ≡ 0
-unfolding quoted starts
+unfolding quoted
 quoted-none b s n = rw (ne-eqb b 34 n)
 
 all-append : (p : ℕ → Bool) (x y : List ℕ) → all p x ≡ true → all p y ≡ true → all p (x ++ y) ≡ true

@@ -8,7 +8,7 @@ use lib.Dec.{eqb}
 use lib.ListN.{length}
 use borrow.Author.Tests.{ne-eqb, eqb-true, eqb-false}
 use Rattle.octets.specs.Classes.{isHex}
-use Rattle.octets.specs.Scans.{starts, escape, runEscaped, more, closes, quoted}
+use Rattle.octets.specs.Scans.{escape, runEscaped, more, closes, quoted}
 use Rattle.sip.specs.Grammar.{Escaped, no-bytes, one-byte, one-escape, QuotedRest, close-quote, qdtext, quoted-pair, QuotedString}
 use Rattle.sip.specs.Grammar.{quoted-string}
 use Rattle.sip.proofs.Tests.{and-left, and-right}
@@ -61,14 +61,14 @@ module _ (p : ℕ → Bool) where
       go false false e f = view-none b (h ∷ l ∷ s) e f
 
   pub escaped-view : (s : List ℕ) → EscapedView p s (runEscaped p 0 s)
-  unfolding runEscaped escape
+  unfolding runEscaped
   escaped-view [] = went {x = []} no-bytes escaped-end
   escaped-view (b ∷ []) = view-short b [] 0 refl (escaped-view [])
   escaped-view (b ∷ h ∷ []) = view-short b (h ∷ []) 0 refl (escaped-view (h ∷ []))
   escaped-view (b ∷ h ∷ l ∷ s) = view-long b h l s (escaped-view (h ∷ l ∷ s)) (escaped-view s)
 
   pub escaped-of : {x r : List ℕ} → p 37 ≡ false → Escaped p x → EscapedEnds p r → runEscaped p 0 (x ++ r) ≡ length x
-  unfolding runEscaped escape
+  unfolding runEscaped
   escaped-of z no-bytes g = g .ends
   escaped-of z (one-byte e d) g = rw (e, escaped-of z d g)
   escaped-of z (one-escape e f d) g = rw (z, e, f, escaped-of z d g)
@@ -115,7 +115,7 @@ pub quoted-some : {v : List ℕ} → QuotedString v → 1 ≤ length v
 quoted-some (quoted-string d) = omega arith
 
 pub quoted-view : (s : List ℕ) → QuotedView s (quoted s)
-unfolding quoted starts
+unfolding quoted
 quoted-view [] = not-quoted
 quoted-view (b ∷ s) = go (eqb b 34) refl
   where
@@ -134,5 +134,5 @@ closes-of (qdtext {b} e f d) r = rw (ne-eqb b 34 e, ne-eqb b 92 f, closes-of d r
 closes-of (quoted-pair d) r = rw (closes-of d r, more-length d)
 
 pub quoted-of : {q : List ℕ} → QuotedString q → (r : List ℕ) → quoted (q ++ r) ≡ length q
-unfolding quoted starts
+unfolding quoted
 quoted-of (quoted-string d) r = rw (closes-of d r) (more-length d)

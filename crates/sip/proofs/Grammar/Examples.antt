@@ -10,8 +10,7 @@ use Rattle.sip.specs.Profile.{rows, find, nameOf}
 use Rattle.sip.specs.Values.{isEmpty, host, port, hostPort, tail, sipFrom, sip, tel, uri, display, bracketed, address, sign, paramValue}
 use Rattle.sip.specs.Values.{paramRest, param, withParam, stops, params, party, isTo}
 use Rattle.sip.specs.Refusals.{otherScheme, isUri}
-use Rattle.sip.specs.Grammar.{UriParts, Uri, Party, OtherScheme, notEmpty, readFields}
-use Rattle.sip.specs.GrammarPromises.{UriRead}
+use Rattle.sip.specs.Grammar.{UriParts, Uri, Party, OtherScheme, notEmpty}
 use Rattle.sip.proofs.Tests.{never, and-left, and-right}
 use Rattle.sip.proofs.Grammar.Promises.{scheme-read, uri-read, to-read}
 

@@ -7,8 +7,8 @@ use lib.Dec.{eqb}
 use borrow.Author.Tests.{eqb-true}
 use Rattle.octets.specs.Classes.{among}
 use Rattle.sip.specs.Refusals.{wellFormed}
-use Rattle.sip.specs.Grammar.{Token, notEmpty, readFields, Formed, some-value, forwards-value, from-value, to-value, call-id-value}
-use Rattle.sip.specs.Grammar.{cseq-value, length-value, require-value, identity-value, privacy-value, any-value}
+use Rattle.sip.specs.Grammar.{Token, notEmpty, readFields, Formed, some-value, max-forwards-value, from-value, to-value, call-id-value}
+use Rattle.sip.specs.Grammar.{cseq-value, content-length-value, require-value, identity-value, privacy-value, any-value}
 use Rattle.sip.proofs.Tests.{never}
 use Rattle.sip.proofs.Grammar.Separators.{not-empty-some, some-not-empty, token-no-blank}
 use Rattle.sip.proofs.Grammar.Tokens.{privacy-complete, privacy-sound, require-complete, require-sound}
@@ -37,12 +37,12 @@ pub formed-sound : (method : List ℕ) (k : ℕ) (v : List ℕ) → wellFormed m
 unfolding wellFormed
 formed-sound method k v e =
     choose (isNotEmpty k) _ _ e (λ a b. some-value (sym (not-empty-among k) ∙ a) (not-empty-some v b)) (λ n₀ e.
-    choose (eqb k 2) _ _ e (λ a b. at-number k 2 a (forwards-value (max-forwards-sound v b))) (λ n₁ e.
+    choose (eqb k 2) _ _ e (λ a b. at-number k 2 a (max-forwards-value (max-forwards-sound v b))) (λ n₁ e.
     choose (eqb k 3) _ _ e (λ a b. at-number k 3 a (from-value (from-sound v b .1))) (λ n₂ e.
     choose (eqb k 4) _ _ e (λ a b. at-number k 4 a (to-value (to-sound v b .derived))) (λ n₃ e.
     choose (eqb k 5) _ _ e (λ a b. at-number k 5 a (call-id-value (call-id-sound v b))) (λ n₄ e.
     choose (eqb k 6) _ _ e (λ a b. at-number k 6 a (cseq-value (cseq-sound method v b))) (λ n₅ e.
-    choose (eqb k 8) _ _ e (λ a b. at-number k 8 a (length-value (content-length-sound v b))) (λ n₆ e.
+    choose (eqb k 8) _ _ e (λ a b. at-number k 8 a (content-length-value (content-length-sound v b))) (λ n₆ e.
     choose (eqb k 14) _ _ e (λ a b. at-number k 14 a (require-value (require-sound v b))) (λ n₇ e.
     choose (eqb k 15) _ _ e (λ a b. at-number k 15 a (identity-value (identity-sound v b))) (λ n₈ e.
     choose (eqb k 16) _ _ e (λ a b. at-number k 16 a (privacy-value (privacy-sound v b))) (λ n₉ e. any-value (rest n₀ n₁ n₂ n₃ n₄ n₅ n₆ n₇ n₈ n₉) v))))))))))
@@ -60,12 +60,12 @@ formed-sound method k v e =
 pub formed-complete : {method : List ℕ} → Token method → {k : ℕ} {v : List ℕ} → Formed method k v → wellFormed method k v ≡ true
 unfolding wellFormed
 formed-complete m {k} {v} (some-value e l) = rw (not-empty-among k ∙ e, some-not-empty v l)
-formed-complete m (forwards-value h) = max-forwards-complete h
+formed-complete m (max-forwards-value h) = max-forwards-complete h
 formed-complete m (from-value h) = from-complete h .0
 formed-complete m (to-value h) = to-complete h
 formed-complete m (call-id-value h) = call-id-complete h
 formed-complete {method} m (cseq-value h) = cseq-complete (rw append-nil at (token-no-blank method [] m)) h
-formed-complete m (length-value h) = content-length-complete h
+formed-complete m (content-length-value h) = content-length-complete h
 formed-complete m (require-value h) = require-complete h .0
 formed-complete m (identity-value h) = identity-complete h .0
 formed-complete m (privacy-value h) = privacy-complete h .0

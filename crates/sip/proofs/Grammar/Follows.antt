@@ -37,7 +37,7 @@ clear-end = record { past = record { no-host = end; no-digit = end; no-colon = r
 
 -- `>`
 pub clear-close : (r : List ℕ) → Clear (62 ∷ r)
-unfolding isHost isDigit isUser isHex
+unfolding isHost isUser isHex
 clear-close r = record { past = past-byte {b = 62} refl refl (λ q. omega arith); no-at = at-stop {b = 62} r refl refl (λ q. omega arith) (λ q. omega arith) }
 
 hex-at : (b : ℕ) → isHex b ≡ true → b ≡ 64 → ⊥
@@ -51,15 +51,15 @@ escaped-no-at (one-byte {b} e d) r n = not-at {b = b} (λ q. let z : true ≡ fa
 escaped-no-at (one-escape {h} {l} e f d) r n = not-at {b = 37} (λ q. omega arith) (not-at (hex-at h e) (not-at (hex-at l f) (escaped-no-at d r n)))
 
 pub clear-tail : {t : List ℕ} → Tail t → (r : List ℕ) → Clear r → Clear (t ++ r)
-unfolding isHost isDigit
+unfolding isHost
 clear-tail no-tail r c = c
 clear-tail (tail-of d) r c =
     record { past = past-byte {b = 59} refl refl (λ q. omega arith); no-at = not-at {b = 59} (λ q. omega arith) (escaped-no-at d r (c .no-at)) }
 
 -- a blank is a space or a tab: what holds of both
-blank-class : (p : ℕ → Bool) → p 32 ≡ false → p 9 ≡ false → (b : ℕ) → isBlank b ≡ true → p b ≡ false
+blank-both : (p : ℕ → Bool) → p 32 ≡ false → p 9 ≡ false → (b : ℕ) → isBlank b ≡ true → p b ≡ false
 unfolding isBlank
-blank-class p x y b e = go (eqb b 32) refl (eqb b 9) refl e
+blank-both p x y b e = go (eqb b 32) refl (eqb b 9) refl e
   where
     go : (t : Bool) → eqb b 32 ≡ t → (u : Bool) → eqb b 9 ≡ u → (t || u) ≡ true → p b ≡ false
     go true q u r e = ap p (eqb-true b 32 q) ∙ x
@@ -68,12 +68,12 @@ blank-class p x y b e = go (eqb b 32) refl (eqb b 9) refl e
 
 pub blank-digit : (b : ℕ) → isBlank b ≡ true → isDigit b ≡ false
 unfolding isDigit
-blank-digit b e = blank-class isDigit refl refl b e
+blank-digit b e = blank-both isDigit refl refl b e
 
 sign-past : {c : List ℕ} → Separator 59 c → (r : List ℕ) → Past (c ++ r)
-unfolding isHost isDigit isBlank starts
+unfolding isHost isBlank starts
 sign-past {c} sc r =
-    record { no-host = sign-stops isHost (blank-class isHost refl refl) refl sc r; no-digit = sign-stops isDigit blank-digit refl sc r; no-colon = go sc }
+    record { no-host = sign-stops isHost (blank-both isHost refl refl) refl sc r; no-digit = sign-stops isDigit blank-digit refl sc r; no-colon = go sc }
   where
     go : {c : List ℕ} → Separator 59 c → starts 58 (c ++ r) ≡ false
     go (blanks-around {x = []} e f) = refl

@@ -209,7 +209,7 @@ unfolding isToken
 equals-no-token se r = sign-stops isToken blank-token refl se r
 
 pub tag-token : {n : List ℕ} → AnyCase (text "tag") n → Token n
-unfolding sameText text isToken all
+unfolding sameText isToken all
 tag-token {n = []} e = let z : false ≡ true = case-same e in never (cc)
 tag-token {n = b ∷ n} e = record { some = omega arith; bytes = each-all (same-token (text "tag") (b ∷ n) (case-same e) refl) }
 

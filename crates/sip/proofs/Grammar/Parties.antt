@@ -15,7 +15,7 @@ use Rattle.sip.specs.declared.AddressAt.{AddressAt}
 use Rattle.sip.specs.declared.ParamsAt.{ParamsAt}
 use Rattle.sip.specs.declared.PartyAt.{PartyAt}
 use Rattle.sip.specs.declared.UriAt.{UriAt}
-use Rattle.sip.specs.Values.{params, tail, uri, bare, address, noParams, noParty, party, isTo, isTagged, isFrom, tagOf, isGlobal}
+use Rattle.sip.specs.Values.{params, tail, bare, address, noParams, noParty, party, isTo, isTagged, isFrom, tagOf, isGlobal}
 use Rattle.sip.specs.Values.{person, identity, isIdentity}
 use Rattle.sip.specs.Grammar.{Long, Userinfo, no-user, user-at, UriParts, Uri, sip-uri, tel-uri, tailOf, Address, name-addr}
 use Rattle.sip.specs.Grammar.{addr-spec, personOf, Party, party-of, GlobalNumber, global-number, Identity, identity-of}
@@ -116,15 +116,16 @@ with-tag-there v x p =
     (p .uri, rw w (p .derived))
 
 -- a malformed value has no tag
+tagged-test : (t : Bool) (n l : ℕ) → not (eqb (cond t (record { good = true; tag = n; len = l }) noParty .len) 0) ≡ true
+    → cond t (record { good = true; tag = n; len = l }) noParty .good ≡ true
+tagged-test true n l e = refl
+tagged-test false n l e = e
+
 tagged-good : (v : List ℕ) → isTagged v ≡ true → isTo v ≡ true
 unfolding isTagged isTo party
-tagged-good v e = go (not (eqb (address v .size) 0) && eqb (address v .size + params noParams 0 (drop (address v .size) v) .size) (length v)) e
-  where
-    go : (t : Bool)
-        → not (eqb (cond t (record { good = true; tag = address v .size + params noParams 0 (drop (address v .size) v) .tag; len = params noParams 0 (drop (address v .size) v) .len }) noParty .len) 0) ≡ true
-        → cond t (record { good = true; tag = address v .size + params noParams 0 (drop (address v .size) v) .tag; len = params noParams 0 (drop (address v .size) v) .len }) noParty .good ≡ true
-    go true e = refl
-    go false e = e
+tagged-good v e =
+    let p = params noParams 0 (drop (address v .size) v) in
+    tagged-test (not (eqb (address v .size) 0) && eqb (address v .size + p .size) (length v)) (address v .size + p .tag) (p .len) e
 
 pub tagged-sound : (v : List ℕ) → isTagged v ≡ true → (u : UriParts) × Party v u (tagOf v ∷ [])
 tagged-sound v e = with-tag-there v e (to-sound v (tagged-good v e))

@@ -62,21 +62,21 @@ scheme-sound s e = go s (run noColon s) (run-view noColon s) e
         at d r f (and-left _ _ w) (and-right (ltb (length x) (length (x ++ r))) _ w)
 
 -- a text and its scheme: the scheme, the colon and the rest
-record Cut (s k : List ℕ) : Type 0 where
+record Parted (s k : List ℕ) : Type 0 where
   rest : List ℕ
   made : s ≡ k ++ (58 ∷ rest)
   before : Each noColon k
 
-cut : {s k : List ℕ} → Scheme s k → Cut s k
-cut (at-colon r) = record { rest = r; made = refl; before = each-end }
-cut (before-colon {b} n d) =
-    let c = cut d in
+parted : {s k : List ℕ} → Scheme s k → Parted s k
+parted (at-colon r) = record { rest = r; made = refl; before = each-end }
+parted (before-colon {b} n d) =
+    let c = parted d in
     record { rest = c .rest; made = ap (λ (x : List ℕ). b ∷ x) (c .made); before = each-byte {b = b} (rw (ne-eqb b 58 n)) (c .before) }
 
 pub scheme-complete : {s : List ℕ} → OtherScheme s → otherScheme s ≡ true
 unfolding otherScheme text all
 scheme-complete (other-scheme {s} {k} d t n m) =
-    let c = cut d in
+    let c = parted d in
     let r : List ℕ = 58 ∷ c .rest in
     let f : Ends noColon r = stop refl in
     let l : ltb (length k) (length (k ++ r)) ≡ true = lt-ltb (length k) (length (k ++ r)) (omega (arith, length-append k r)) in

@@ -108,7 +108,7 @@ pub sip-of : {a u h q d : List ℕ} → Userinfo a u → Host h → Port q d →
       user = length u;
       tail = 4 + length a + (length h + length q);
     }
-unfolding sip isUser isHost isDigit starts
+unfolding sip isUser isHost starts
 sip-of {h = h} {q} no-user e p w c =
     let n : NoAt (h ++ (q ++ w)) = no-at-before isHost refl h (q ++ w) (all-of (e .bytes)) (port-no-at p) in
     rw (lands 0 (h ++ (q ++ w)) tt n) (from-of 4 0 e p w (c .past))

@@ -44,7 +44,7 @@ unfolding text
 four-tel {k} e = sym (agree-length lower (text "tel:") k (sym (sameText-agree (text "tel:") k) ∙ case-same e))
 
 not-both : {k : List ℕ} → AnyCase (text "tel:") k → sameText (text "sip:") k ≡ false
-unfolding text lower sameText
+unfolding text sameText
 not-both {k = []} e = refl
 not-both {k = b ∷ k} e = go (sameText (text "sip:") (b ∷ k)) refl
   where
