@@ -22,6 +22,10 @@ SchemeRead = (s : List ℕ) → (otherScheme s ≡ true) ↔ OtherScheme s
 abbrev pub UriRead : Type 0
 UriRead = (s : List ℕ) → (isUri s ≡ true) ↔ ((u : UriParts) × Uri s u)
 
+-- a text that the grammar derives never has another scheme: reason 7 refuses no URI
+abbrev pub NoOther : Type 0
+NoOther = (s : List ℕ) (u : UriParts) → Uri s u → OtherScheme s → ⊥
+
 -- no URI has two readings: user, host, port and tail, or number and tail, are those of the bytes
 abbrev pub OneUri : Type 0
 OneUri = (s : List ℕ) (u w : UriParts) → Uri s u → Uri s w → u ≡ w

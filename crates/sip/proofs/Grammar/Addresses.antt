@@ -7,19 +7,15 @@ use native.Mathlib.Omega.{arith}
 use lib.Dec.{eqb}
 use lib.ListN.{length, drop, length-append}
 use lib.Seq.{drop-append-seam, drop-append-add}
-use borrow.Author.Tests.{eq-eqb}
-use Rattle.octets.specs.Classes.{isToken}
-use Rattle.octets.specs.Scans.{all, starts, lower, sameText}
+use Rattle.octets.specs.Scans.{starts}
 use Rattle.sip.specs.declared.AddressAt.{AddressAt}
 use Rattle.sip.specs.declared.UriAt.{UriAt}
 use Rattle.sip.specs.Values.{tail, uri, display, noAddress, bracketed, bare, address}
-use Rattle.sip.specs.Grammar.{each-end, each-byte, Token, UriParts, Uri, sip-uri, tel-uri, tailOf, last-word, DisplayName}
-use Rattle.sip.specs.Grammar.{words-name, Address, name-addr, addr-spec}
-use Rattle.sip.proofs.Tests.{all-first, byte-start}
-use Rattle.sip.proofs.Texts.{same-parts, same-token, lower-sign}
-use Rattle.sip.proofs.Grammar.Bytes.{case-same, some-no}
+use Rattle.sip.specs.Grammar.{each-end, UriParts, Uri, tailOf, last-word, DisplayName, words-name, Address, name-addr, addr-spec}
+use Rattle.sip.proofs.Tests.{byte-start}
+use Rattle.sip.proofs.Grammar.Bytes.{some-no}
 use Rattle.sip.proofs.Grammar.Schemes.{Clear}
-use Rattle.sip.proofs.Grammar.Uris.{UriView, found, four-sip, four-tel, front-bare, front-some, front-uri, join, no-uri, uri-here}
+use Rattle.sip.proofs.Grammar.Uris.{Begins, UriView, begins, found, front-bare, front-some, front-uri, join, no-uri, uri-here}
 use Rattle.sip.proofs.Grammar.Uris.{uri-view}
 use Rattle.sip.proofs.Grammar.Follows.{closed-bracket, tail-le, uri-before, uri-front}
 use Rattle.sip.proofs.Grammar.DisplayNames.{DisplayView, display-here, display-of, display-view, ending-bracket, ending-colon}
@@ -68,46 +64,7 @@ address-view s = go s (display s) (display-view s)
         (cond (eqb (uri s .size) 0) noAddress (record { size = uri s .tail; at = 0; uri = bare (uri s) })))
     go _ _ (display-here {d} dd r) = rw (drop-append-seam d r, drop-append-add d r 1) (at dd r (starts 60 r) refl)
 
--- ---- a URI begins with a token and a colon
-
-record Begins (s : List ℕ) : Type 0 where
-  name : List ℕ
-  is-token : Token name
-  others : List ℕ
-  made : s ≡ name ++ (58 ∷ others)
-
-same-as : (x a : ℕ) → lower x ≡ lower a → isToken x ≡ true → isToken a ≡ true
-unfolding sameText all
-same-as x a e h =
-    let q : sameText (x ∷ []) (a ∷ []) ≡ true = rw (eq-eqb (lower x) (lower a) e) in
-    let t : all isToken (x ∷ []) ≡ true = rw h in
-    all-first isToken a [] (same-token (x ∷ []) (a ∷ []) q t)
-
-begins-with : (x y z : ℕ) (k r : List ℕ) → isToken x ≡ true → isToken y ≡ true → isToken z ≡ true → sameText (x ∷ y ∷ z ∷ 58 ∷ []) k ≡ true → length k ≡ 4 → Begins (k ++ r)
-unfolding lower
-begins-with x y z [] r hx hy hz e l = absurd (omega arith)
-begins-with x y z (a ∷ []) r hx hy hz e l = absurd (omega arith)
-begins-with x y z (a ∷ b ∷ []) r hx hy hz e l = absurd (omega arith)
-begins-with x y z (a ∷ b ∷ c ∷ []) r hx hy hz e l = absurd (omega arith)
-begins-with x y z (a ∷ b ∷ c ∷ d ∷ f ∷ k) r hx hy hz e l = absurd (omega arith)
-begins-with x y z (a ∷ b ∷ c ∷ d ∷ []) r hx hy hz e l =
-    let (p₁, e₁) = same-parts x a (y ∷ z ∷ 58 ∷ []) (b ∷ c ∷ d ∷ []) e in
-    let (p₂, e₂) = same-parts y b (z ∷ 58 ∷ []) (c ∷ d ∷ []) e₁ in
-    let (p₃, e₃) = same-parts z c (58 ∷ []) (d ∷ []) e₂ in
-    let (p₄, e₄) = same-parts 58 d [] [] e₃ in
-    let q : d ≡ 58 = lower-sign 58 d (omega arith) p₄ in
-    record {
-      name = a ∷ b ∷ c ∷ [];
-      is-token = record { some = omega arith; bytes = each-byte (same-as x a p₁ hx) (each-byte (same-as y b p₂ hy) (each-byte (same-as z c p₃ hz) each-end)) };
-      others = r;
-      made = rw q;
-    }
-
-begins : {s : List ℕ} {u : UriParts} → Uri s u → (r : List ℕ) → Begins (s ++ r)
-unfolding isToken
-begins (sip-uri {k} {a} {u} {h} {q} {d} {t} e us hs ps ts) r =
-    rw (append-assoc k (a ++ (h ++ (q ++ t))) r) (begins-with 115 105 112 k _ refl refl refl (case-same e) (four-sip e))
-begins (tel-uri {k} {n} {t} e ds ts) r = rw (append-assoc k (n ++ t) r) (begins-with 116 101 108 k _ refl refl refl (case-same e) (four-tel e))
+-- ---- a bare URI is not taken for a display name: its scheme is a token, and a colon stands after it
 
 no-bracket : (s : List ℕ) → Begins s → starts 60 (drop (display s) s) ≡ false
 unfolding starts

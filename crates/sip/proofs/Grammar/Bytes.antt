@@ -1,5 +1,5 @@
 -- Bytes of a class, words in any case, runs and numbers: a run ends exactly where a byte outside its class stands.
-use mathlib.Core.Path.{_≡_, refl, _∙_, sym}
+use mathlib.Core.Path.{_≡_, refl, _∙_, sym, ap}
 use mathlib.Core.Bool.{Bool, true, false, not, cond, _&&_, and-false}
 use mathlib.Core.List.{List, [], _∷_, _++_}
 use Prim.Native.Nat.{ℕ, suc, _+_, _≤_}
@@ -8,13 +8,13 @@ use lib.Dec.{eqb, leb}
 use lib.ListN.{length, take, drop, take-append-drop}
 use lib.Seq.{length-take-le, take-append-seam}
 use borrow.Author.Tests.{eq-eqb, ne-eqb, eqb-true, le-leb, lt-leb, leb-true, not-true}
-use Rattle.octets.specs.Classes.{within, isDigit}
+use Rattle.octets.specs.Classes.{within, isDigit, isToken}
 use Rattle.octets.specs.Scans.{run, all, decimal, noNumber, number, lower, sameText}
 use Rattle.octets.specs.declared.NumberAt.{NumberAt}
 use Rattle.octets.proofs.Runs.{run-nil, run-no, run-le, run-all, run-after, run-exact, run-yes}
-use Rattle.sip.specs.Grammar.{Each, each-end, each-byte, Long, AnyCase, case-end, as-it-is, as-capital}
+use Rattle.sip.specs.Grammar.{Each, each-end, each-byte, Long, AnyCase, case-end, as-it-is, as-capital, Token}
 use Rattle.sip.proofs.Tests.{never, and-left, and-right, range-low, range-high, in-range, all-first, all-others}
-use Rattle.sip.proofs.Texts.{same-parts}
+use Rattle.sip.proofs.Texts.{same-parts, same-token}
 
 pub some-no : (n : ℕ) → 1 ≤ n → eqb n 0 ≡ false
 some-no n h = ne-eqb n 0 (λ q. omega arith)
@@ -30,6 +30,19 @@ pub each-all : {p : ℕ → Bool} {s : List ℕ} → all p s ≡ true → Each p
 unfolding all
 each-all {s = []} e = each-end
 each-all {p} {s = b ∷ s} e = each-byte (and-left (p b) (all p s) e) (each-all (and-right (p b) (all p s) e))
+
+-- a class without the byte c
+pub each-other : {p : ℕ → Bool} {s : List ℕ} (c : ℕ) → p c ≡ false → Each p s → Each (λ (b : ℕ). not (eqb b c)) s
+each-other c h each-end = each-end
+each-other {p} c h (each-byte {b} e d) =
+    each-byte {b = b} (rw (ne-eqb b c (λ q. let z : true ≡ false = sym e ∙ ap p q ∙ h in never (cc)))) (each-other c h d)
+
+-- lo to hi bytes
+pub long-of : (lo hi : ℕ) (s : List ℕ) → within lo hi (length s) ≡ true → Long lo hi s
+long-of lo hi s e = record { least = range-low lo hi (length s) e; most = range-high lo hi (length s) e }
+
+pub within-long : {lo hi : ℕ} {s : List ℕ} → Long lo hi s → within lo hi (length s) ≡ true
+within-long {lo} {hi} {s} l = in-range lo hi (length s) (l .least) (l .most)
 
 lower-capital : (b : ℕ) → 65 ≤ b → b ≤ 90 → lower (b + 32) ≡ lower b
 unfolding lower
@@ -60,6 +73,15 @@ same-case (c ∷ word) (b ∷ s) h e =
     go : (t : Bool) → within 65 90 b ≡ t → c ≡ lower b → AnyCase word s → AnyCase (c ∷ word) (b ∷ s)
     go true f p d = let k : c ≡ b + 32 = p ∙ rw f in rw k (as-capital (range-low 65 90 b f) (range-high 65 90 b f) d)
     go false f p d = let k : c ≡ b = p ∙ rw f in rw k (as-it-is d)
+
+pub case-length : {word s : List ℕ} → AnyCase word s → length s ≡ length word
+case-length case-end = refl
+case-length (as-it-is d) = ap suc (case-length d)
+case-length (as-capital l h d) = ap suc (case-length d)
+
+-- a word of token bytes is a token in any case
+pub word-token : {word s : List ℕ} → AnyCase word s → all isToken word ≡ true → 1 ≤ length word → Token s
+word-token {word} {s} d e l = record { some = omega (arith, case-length d); bytes = each-all (same-token word s (case-same d) e) }
 
 pub other-word : (word s : List ℕ) → all isSmall word ≡ true → (AnyCase word s → ⊥) → sameText word s ≡ false
 other-word word s h n = go (sameText word s) refl
@@ -119,7 +141,7 @@ number-view most bound s = go s (run isDigit s) (run-view isDigit s)
             → NumberView most bound (x ++ r) (cond t (record { size = length x; value = decimal 0 x }) noNumber)
         at true q =
             let w : within 1 most (length x) ≡ true = and-left _ _ q in
-            number-here e (record { least = range-low 1 most (length x) w; most = range-high 1 most (length x) w })
+            number-here e (long-of 1 most x w)
             (leb-true (decimal 0 x) bound (and-right (within 1 most (length x)) _ q)) r
         at false q = not-number
 
@@ -127,4 +149,4 @@ pub number-of : (most bound : ℕ) {d : List ℕ} → Each isDigit d → Long 1 
     → number most bound (d ++ r) ≡ record { size = length d; value = decimal 0 d }
 unfolding number
 number-of most bound {d} e l m r f =
-    rw (run-of e f, take-append-seam d r, in-range 1 most (length d) (l .least) (l .most), le-leb (decimal 0 d) bound m)
+    rw (run-of e f, take-append-seam d r, within-long l, le-leb (decimal 0 d) bound m)

@@ -7,8 +7,8 @@ use lib.Dec.{eqb}
 use borrow.Author.Tests.{eqb-true}
 use Rattle.octets.specs.Classes.{among}
 use Rattle.sip.specs.Refusals.{wellFormed}
-use Rattle.sip.specs.Grammar.{Token, notEmpty, readFields, Formed, some-value, max-forwards-value, from-value, to-value, call-id-value}
-use Rattle.sip.specs.Grammar.{cseq-value, content-length-value, require-value, identity-value, privacy-value, any-value}
+use Rattle.sip.specs.Grammar.{Token, notEmpty, readFields, Formed, some-value, from-value, to-value, call-id-value, cseq-value}
+use Rattle.sip.specs.Grammar.{require-value, identity-value, privacy-value, any-value, max-forwards-value, content-length-value}
 use Rattle.sip.proofs.Tests.{never}
 use Rattle.sip.proofs.Grammar.Separators.{not-empty-some, some-not-empty, token-no-blank}
 use Rattle.sip.proofs.Grammar.Tokens.{privacy-complete, privacy-sound, require-complete, require-sound}

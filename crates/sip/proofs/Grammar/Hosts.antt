@@ -13,9 +13,9 @@ use Rattle.octets.specs.Scans.{run, all, starts, escape, runEscaped, decimal, n
 use Rattle.octets.specs.declared.NumberAt.{NumberAt}
 use Rattle.sip.specs.Values.{host, port, hostPort, tail}
 use Rattle.sip.specs.Grammar.{Long, Host, Port, no-port, port-of, Tail, no-tail, tail-of}
-use Rattle.sip.proofs.Tests.{never, and-left, and-right, range-low, range-high, in-range, all-first, all-others}
-use Rattle.sip.proofs.Grammar.Bytes.{Ends, NumberView, RunView, not-number, number-here, number-of, number-view, ran, run-of}
-use Rattle.sip.proofs.Grammar.Bytes.{run-view, some-no, stop}
+use Rattle.sip.proofs.Tests.{never, and-left, and-right, all-first, all-others}
+use Rattle.sip.proofs.Grammar.Bytes.{Ends, NumberView, RunView, long-of, not-number, number-here, number-of, number-view, ran}
+use Rattle.sip.proofs.Grammar.Bytes.{run-of, run-view, some-no, stop, within-long}
 use Rattle.sip.proofs.Grammar.Escapes.{EscapedEnds, EscapedView, escaped-of, escaped-view, went}
 
 -- ---- host
@@ -33,13 +33,13 @@ host-view s = go s (run isHost s) (run-view isHost s)
       where
         at : (t : Bool) → within 1 253 (length x) ≡ t → HostView (x ++ r) (cond t (length x) 0)
         at true q =
-            let l : Long 1 253 x = record { least = range-low 1 253 (length x) q; most = range-high 1 253 (length x) q } in
+            let l : Long 1 253 x = long-of 1 253 x q in
             host-here (record { bytes = e; long = l }) r
         at false q = no-host
 
 host-of : {h : List ℕ} → Host h → (r : List ℕ) → Ends isHost r → host (h ++ r) ≡ length h
 unfolding host
-host-of {h} d r f = rw (run-of (d .bytes) f, in-range 1 253 (length h) (d .long .least) (d .long .most))
+host-of {h} d r f = rw (run-of (d .bytes) f, within-long (d .long))
 
 -- ---- port
 

@@ -13,9 +13,9 @@ use Rattle.octets.specs.Scans.{run, all, decimal, number, same}
 use Rattle.octets.specs.declared.NumberAt.{NumberAt}
 use Rattle.sip.specs.Values.{isNumber, isMaxForwards, isContentLength, isCSeq, isCallId}
 use Rattle.sip.specs.Grammar.{Each, Long, MaxForwards, ContentLength, CSeq, cseq-of, CallId}
-use Rattle.sip.proofs.Tests.{never, and-left, and-right, range-low, range-high, in-range, all-first, all-others}
-use Rattle.sip.proofs.Grammar.Bytes.{Ends, NumberView, RunView, all-of, each-all, end, not-number, number-here, number-of}
-use Rattle.sip.proofs.Grammar.Bytes.{number-view, ran, run-of, run-view, some-no, stop}
+use Rattle.sip.proofs.Tests.{never, and-left, and-right, range-high, all-first, all-others}
+use Rattle.sip.proofs.Grammar.Bytes.{Ends, NumberView, RunView, all-of, each-all, end, long-of, not-number, number-here, number-of}
+use Rattle.sip.proofs.Grammar.Bytes.{number-view, ran, run-of, run-view, some-no, stop, within-long}
 use Rattle.sip.proofs.Grammar.Follows.{blank-digit}
 
 -- ---- numbers
@@ -133,9 +133,9 @@ pub call-id-sound : (v : List ℕ) → isCallId v ≡ true → CallId v
 unfolding isCallId
 call-id-sound v e =
     let w : within 1 128 (length v) ≡ true = and-left _ _ e in
-    let l : Long 1 128 v = record { least = range-low 1 128 (length v) w; most = range-high 1 128 (length v) w } in
+    let l : Long 1 128 v = long-of 1 128 v w in
     record { long = l; bytes = each-all (and-right (within 1 128 (length v)) _ e) }
 
 pub call-id-complete : {v : List ℕ} → CallId v → isCallId v ≡ true
 unfolding isCallId
-call-id-complete {v} h = rw (in-range 1 128 (length v) (h .long .least) (h .long .most)) (all-of (h .bytes))
+call-id-complete {v} h = rw (within-long (h .long)) (all-of (h .bytes))

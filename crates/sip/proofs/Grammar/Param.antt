@@ -13,10 +13,9 @@ use Rattle.sip.specs.declared.ParamAt.{ParamAt}
 use Rattle.sip.specs.Values.{sign, noParam, paramValue, paramRest, param}
 use Rattle.sip.specs.Grammar.{Long, AnyCase, Separator, QuotedString, quoted-string, Token, GenValue, token-value, string-value}
 use Rattle.sip.specs.Grammar.{OtherName, Param, name-alone, name-value, tag-value}
-use Rattle.sip.proofs.Tests.{never, range-low, range-high, in-range}
-use Rattle.sip.proofs.Texts.{same-token}
-use Rattle.sip.proofs.Grammar.Bytes.{Ends, RunView, case-same, each-all, other-word, ran, run-of, run-view, same-case, some-no}
-use Rattle.sip.proofs.Grammar.Bytes.{stop}
+use Rattle.sip.proofs.Tests.{never}
+use Rattle.sip.proofs.Grammar.Bytes.{Ends, RunView, case-same, long-of, other-word, ran, run-of, run-view, same-case, some-no}
+use Rattle.sip.proofs.Grammar.Bytes.{stop, within-long, word-token}
 use Rattle.sip.proofs.Grammar.Separators.{SignView, blank-token, sign-exact, sign-some, sign-stops, sign-view, signed}
 use Rattle.sip.proofs.Grammar.Separators.{token-no-blank, unsigned}
 use Rattle.sip.proofs.Grammar.Escapes.{QuotedView, not-quoted, quoted-here, quoted-of, quoted-some, quoted-view}
@@ -58,8 +57,8 @@ tag-view s = go s (run isToken s) (run-view isToken s)
       where
         at : (t : Bool) → within 1 64 (length x) ≡ t → TagView (x ++ r) (cond t (length x) 0)
         at true q =
-            let l : 1 ≤ length x = range-low 1 64 (length x) q in
-            tag-here (record { some = l; bytes = e }) (record { least = l; most = range-high 1 64 (length x) q }) r
+            let l : Long 1 64 x = long-of 1 64 x q in
+            tag-here (record { some = l .least; bytes = e }) l r
         at false q = not-tag
 
 value-of : {v : List ℕ} → GenValue v → (r : List ℕ) → Ends isToken r → paramValue false (v ++ r) ≡ length v
@@ -71,7 +70,7 @@ value-of (string-value (quoted-string {s} d)) r f =
 
 tag-of : {v : List ℕ} → Token v → Long 1 64 v → (r : List ℕ) → Ends isToken r → paramValue true (v ++ r) ≡ length v
 unfolding paramValue
-tag-of {v} h l r f = rw (run-of (h .bytes) f, in-range 1 64 (length v) (l .least) (l .most))
+tag-of {v} h l r f = rw (run-of (h .bytes) f, within-long l)
 
 -- no blank stands at a value's front
 quoted-no-blank : {v : List ℕ} → QuotedString v → (r : List ℕ) → Ends isBlank (v ++ r)
@@ -209,9 +208,8 @@ unfolding isToken
 equals-no-token se r = sign-stops isToken blank-token refl se r
 
 pub tag-token : {n : List ℕ} → AnyCase (text "tag") n → Token n
-unfolding sameText isToken all
-tag-token {n = []} e = let z : false ≡ true = case-same e in never (cc)
-tag-token {n = b ∷ n} e = record { some = omega arith; bytes = each-all (same-token (text "tag") (b ∷ n) (case-same e) refl) }
+unfolding text isToken all
+tag-token e = word-token e refl (omega arith)
 
 not-tag-text : {n : List ℕ} → OtherName n → sameText (text "tag") n ≡ false
 unfolding text all

@@ -15,8 +15,8 @@ use Rattle.sip.specs.declared.AddressAt.{AddressAt}
 use Rattle.sip.specs.declared.ParamsAt.{ParamsAt}
 use Rattle.sip.specs.declared.PartyAt.{PartyAt}
 use Rattle.sip.specs.declared.UriAt.{UriAt}
-use Rattle.sip.specs.Values.{params, tail, bare, address, noParams, noParty, party, isTo, isTagged, isFrom, tagOf, isGlobal}
-use Rattle.sip.specs.Values.{person, identity, isIdentity}
+use Rattle.sip.specs.Values.{params, tail, bare, address, noParams, noParty, party, isTo, isTagged, isFrom, tagOf, isGlobal, person}
+use Rattle.sip.specs.Values.{identity, isIdentity}
 use Rattle.sip.specs.Grammar.{Long, Userinfo, no-user, user-at, UriParts, Uri, sip-uri, tel-uri, tailOf, Address, name-addr}
 use Rattle.sip.specs.Grammar.{addr-spec, personOf, Party, party-of, GlobalNumber, global-number, Identity, identity-of}
 use Rattle.sip.proofs.Tests.{never, and-left, and-right, range-low, range-high, in-range, all-first, all-others}

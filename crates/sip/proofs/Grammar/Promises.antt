@@ -3,7 +3,7 @@ use Rattle.sip.specs.Values.{tagOf}
 use Rattle.sip.specs.Grammar.{Token, personOf}
 use Rattle.sip.specs.GrammarPromises.{TagsRead, IdRead, LackingRead, UriRead, OneUri, PersonRead, CalledRead, ToRead, FromRead}
 use Rattle.sip.specs.GrammarPromises.{OneParty, IdentityRead, PrivacyRead, RequireRead, FieldRead, MethodToken, SchemeRead}
-use Rattle.sip.specs.GrammarPromises.{TaggedRead}
+use Rattle.sip.specs.GrammarPromises.{TaggedRead, NoOther}
 use Rattle.sip.proofs.Change.{everything}
 use Rattle.sip.proofs.Grammar.Bytes.{each-all}
 use Rattle.sip.proofs.Grammar.Tokens.{id-complete, id-sound, lacking-complete, lacking-sound, privacy-complete, privacy-sound}
@@ -12,7 +12,7 @@ use Rattle.sip.proofs.Grammar.Follows.{uri-complete, uri-sound}
 use Rattle.sip.proofs.Grammar.Parties.{from-complete, from-sound, identity-complete, identity-sound, tagged-complete, tagged-sound}
 use Rattle.sip.proofs.Grammar.Parties.{tags-found, to-complete, to-sound}
 use Rattle.sip.proofs.Grammar.Unique.{party-unique, person-found, uri-unique}
-use Rattle.sip.proofs.Grammar.RequestUris.{called-complete, called-sound, scheme-complete, scheme-sound}
+use Rattle.sip.proofs.Grammar.RequestUris.{called-complete, called-sound, no-other, scheme-complete, scheme-sound}
 use Rattle.sip.proofs.Grammar.Fields.{formed-complete, formed-sound}
 
 pub scheme-read : SchemeRead
@@ -20,6 +20,9 @@ scheme-read s = ((λ e. scheme-sound s e), (λ d. scheme-complete d))
 
 pub uri-read : UriRead
 uri-read s = ((λ e. uri-sound s e), (λ (u, d). uri-complete d))
+
+pub no-other-uri : NoOther
+no-other-uri s u d o = no-other d o
 
 pub one-uri : OneUri
 one-uri s u w d e = uri-unique d e

@@ -2,7 +2,7 @@
 use mathlib.Core.Path.{_≡_, refl, _∙_, sym, ap}
 use mathlib.Core.Bool.{Bool, true, false, not, _&&_, _||_, or-true}
 use mathlib.Core.List.{List, [], _∷_, _++_, append-nil}
-use Prim.Native.Nat.{ℕ, _≤_}
+use Prim.Native.Nat.{ℕ}
 use native.Mathlib.Omega.{arith}
 use lib.Dec.{eqb, ltb}
 use lib.ListN.{length, take, length-append}
@@ -13,11 +13,14 @@ use Rattle.octets.specs.Scans.{run, all, sameText}
 use Rattle.octets.proofs.Runs.{run-whole}
 use Rattle.sip.specs.Values.{isEmpty, isGlobal, isShort, isCalled}
 use Rattle.sip.specs.Refusals.{otherScheme}
-use Rattle.sip.specs.Grammar.{Each, each-end, each-byte, Long, AnyCase, Token, global-number, Number, long-number, short-number}
-use Rattle.sip.specs.Grammar.{Called, number-alone, number-and, Scheme, at-colon, before-colon, OtherScheme, other-scheme}
-use Rattle.sip.proofs.Tests.{never, and-left, and-right, range-low, range-high, in-range, all-first, all-others}
-use Rattle.sip.proofs.Grammar.Bytes.{Ends, RunView, all-of, case-same, each-all, ends-at, other-word, ran, run-of, run-view, stop}
+use Rattle.sip.specs.Grammar.{Each, each-end, each-byte, Long, AnyCase, Token, UriParts, Uri, global-number, Number, long-number}
+use Rattle.sip.specs.Grammar.{short-number, Called, number-alone, number-and, Scheme, at-colon, before-colon, OtherScheme}
+use Rattle.sip.specs.Grammar.{other-scheme}
+use Rattle.sip.proofs.Tests.{never, and-left, and-right}
+use Rattle.sip.proofs.Grammar.Bytes.{Ends, RunView, all-of, case-same, each-all, each-other, ends-at, long-of, other-word, ran}
+use Rattle.sip.proofs.Grammar.Bytes.{run-of, run-view, stop, within-long}
 use Rattle.sip.proofs.Grammar.Separators.{not-empty-some, some-not-empty}
+use Rattle.sip.proofs.Grammar.Uris.{Begins, begins}
 use Rattle.sip.proofs.Grammar.Parties.{global-complete, global-sound}
 
 -- ---- the scheme
@@ -91,13 +94,27 @@ scheme-complete (other-scheme {s} {k} d t n m) =
       other-word (text "tel") k refl m,
     )
 
+-- a URI's scheme is sip or tel: reasons 7 and 8 are of different texts
+pub no-other : {s : List ℕ} {u : UriParts} → Uri s u → OtherScheme s → ⊥
+unfolding isToken
+no-other {s} d (other-scheme {k} c t n m) =
+    let b : Begins s = rw append-nil at (begins d []) in
+    let p = parted c in
+    let k-is : k ≡ b .name =
+    sym (before (p .rest) (p .before)) ∙ ap (λ (x : List ℕ). take (run noColon x) x) (sym (p .made) ∙ b .made) ∙ before (b .others) (each-other 58 refl (b .is-token .bytes)) in
+    b .sip-or-tel (rw k-is at n) (rw k-is at m)
+  where
+    -- all before the first colon
+    before : {k : List ℕ} (r : List ℕ) → Each noColon k → take (run noColon (k ++ (58 ∷ r))) (k ++ (58 ∷ r)) ≡ k
+    before {k} r e = let f : Ends noColon (58 ∷ r) = stop refl in rw (run-of e f, take-append-seam k (58 ∷ r))
+
 -- ---- the called number
 
 short-sound : (n : List ℕ) → isShort n ≡ true → Number n
 unfolding isShort
 short-sound n e =
     let w : within 2 6 (length n) ≡ true = and-left _ _ e in
-    let l : Long 2 6 n = record { least = range-low 2 6 (length n) w; most = range-high 2 6 (length n) w } in
+    let l : Long 2 6 n = long-of 2 6 n w in
     short-number (each-all (and-right (within 2 6 (length n)) _ e)) l
 
 number-form : (n : List ℕ) → (isGlobal n || isShort n) ≡ true → Number n
@@ -110,22 +127,16 @@ number-form n e = go (isGlobal n) refl e
 number-formed : {n : List ℕ} → Number n → (isGlobal n || isShort n) ≡ true
 unfolding isShort
 number-formed (long-number g) = rw (global-complete g)
-number-formed (short-number {n} e l) = rw (in-range 2 6 (length n) (l .least) (l .most), all-of e) (or-true (isGlobal n))
+number-formed (short-number {n} e l) = rw (within-long l, all-of e) (or-true (isGlobal n))
 
 abbrev other : ℕ → Bool
 other b = not (eqb b 59)
 
-digit-other : (s : List ℕ) → all isDigit s ≡ true → all other s ≡ true
-unfolding all isDigit
-digit-other [] e = refl
-digit-other (b ∷ s) e =
-    let d : b ≤ 57 = range-high 48 57 b (all-first isDigit b s e) in
-    rw (ne-eqb b 59 (λ q. omega arith), digit-other s (all-others isDigit b s e))
-
-number-other : {n : List ℕ} → Number n → all other n ≡ true
-unfolding all
-number-other (long-number (global-number {d} {ds} lo hi e l)) = rw (ne-eqb d 59 (λ q. omega arith), digit-other ds (all-of e))
-number-other (short-number {n} e l) = digit-other n (all-of e)
+number-other : {n : List ℕ} → Number n → Each other n
+unfolding isDigit
+number-other (long-number (global-number {d} {ds} lo hi e l)) =
+    each-byte {b = 43} refl (each-byte {b = d} (rw (ne-eqb d 59 (λ q. omega arith))) (each-other 59 refl e))
+number-other (short-number {n} e l) = each-other 59 refl e
 
 pub called-sound : (s : List ℕ) → isCalled s ≡ true → Called s
 unfolding isCalled
@@ -140,8 +151,7 @@ called-sound s e = go s (run other s) (run-view other s) e
 
 pub called-complete : {s : List ℕ} → Called s → isCalled s ≡ true
 unfolding isCalled
-called-complete (number-alone {n} h) = rw (run-whole other n (number-other h), take-length n) (number-formed h)
+called-complete (number-alone {n} h) = rw (run-whole other n (all-of (number-other h)), take-length n) (number-formed h)
 called-complete (number-and {n} h r) =
-    let e : Each other n = each-all (number-other h) in
     let f : Ends other (59 ∷ r) = stop refl in
-    rw (run-of e f, take-append-seam n (59 ∷ r)) (number-formed h)
+    rw (run-of (number-other h) f, take-append-seam n (59 ∷ r)) (number-formed h)

@@ -14,8 +14,8 @@ use Rattle.sip.specs.declared.UriAt.{UriAt}
 use Rattle.sip.specs.Values.{noUri, hostPort, tail, sipFrom, sip, tel}
 use Rattle.sip.specs.Grammar.{Each, Long, AnyCase, Escaped, Userinfo, no-user, user-at, Host, Port, no-port, port-of, Tail}
 use Rattle.sip.specs.Grammar.{TelNumber, digits-alone, plus-digits, UriParts, sip-parts, tel-parts}
-use Rattle.sip.proofs.Tests.{never, range-low, range-high, in-range, all-first, byte-start}
-use Rattle.sip.proofs.Grammar.Bytes.{Ends, RunView, all-of, ran, run-of, run-view, some-no}
+use Rattle.sip.proofs.Tests.{never, all-first, byte-start}
+use Rattle.sip.proofs.Grammar.Bytes.{Ends, RunView, all-of, long-of, ran, run-of, run-view, some-no, within-long}
 use Rattle.sip.proofs.Grammar.Escapes.{EscapedEnds, EscapedView, escaped-of, escaped-stop, escaped-view, went}
 use Rattle.sip.proofs.Grammar.Hosts.{HostPortView, NoAt, Past, TailView, escape-not, host-port-here, host-port-of, host-port-view}
 use Rattle.sip.proofs.Grammar.Hosts.{lands, no-at-before, no-host-port, not-at, tail-here, tail-view}
@@ -87,7 +87,7 @@ sip-view s = go s (runEscaped isUser 0 s) (escaped-view isUser s)
         choose : (t : Bool) → starts 64 r ≡ t → (w : Bool) → within 1 64 (length x) ≡ w
             → SipView (x ++ r) (cond t (cond w (sipFrom (length x + 5) (length x) (drop 1 r)) noUri) (sipFrom 4 0 (x ++ r)))
         choose true e true q =
-            let l : Long 1 64 x = record { least = range-low 1 64 (length x) q; most = range-high 1 64 (length x) q } in
+            let l : Long 1 64 x = long-of 1 64 x q in
             rw (byte-start 64 r e) (after x d l (drop 1 r) _ (from-view (length x + 5) (length x) (drop 1 r)))
         choose true e false q = no-sip
         choose false e w q = plain (x ++ r) _ (from-view 4 0 (x ++ r))
@@ -125,7 +125,7 @@ sip-of {h = h} {q} (user-at {u} d l) e p w c =
       escaped-of isUser refl d f,
       drop-append-seam u (64 ∷ s),
       drop-append-add u (64 ∷ s) 1,
-      in-range 1 64 (length u) (l .least) (l .most),
+      within-long l,
       ← k,
     ) (from-of (length u + 5) (length u) e p w (c .past))
 
@@ -165,7 +165,7 @@ tel-from y s mk = rw (drop-append-seam y s) (go s (run isDigit s) (run-view isDi
               tail = 4 + length y + length x;
             }) noUri)
         at true q =
-            let l : Long 1 15 x = record { least = range-low 1 15 (length x) q; most = range-high 1 15 (length x) q } in
+            let l : Long 1 15 x = long-of 1 15 x q in
             let seam : drop (length y + length x) (y ++ (x ++ r)) ≡ r = drop-append-add y (x ++ r) (length x) ∙ drop-append-seam x r in
             let k : 4 + length y + length x ≡ 4 + length (y ++ x) = rw (length-append y x) (omega arith) in
             rw (seam, k, ← append-assoc y x r) (then (mk x e l) r (tail r) (tail-view r))
@@ -190,8 +190,8 @@ unfolding tel starts
 tel-of (digits-alone {d} e l) w f =
     let z : 0 + length d ≡ length d = omega arith in
     let k : 4 + 0 + length d ≡ 4 + length d = omega arith in
-    rw (no-plus d w (all-of e) (l .least), run-of e f, in-range 1 15 (length d) (l .least) (l .most), z, drop-append-seam d w)
+    rw (no-plus d w (all-of e) (l .least), run-of e f, within-long l, z, drop-append-seam d w)
 tel-of (plus-digits {d} e l) w f =
     let z : 1 + length d ≡ suc (length d) = omega arith in
     let k : 5 + length d ≡ 4 + suc (length d) = omega arith in
-    rw (run-of e f, in-range 1 15 (length d) (l .least) (l .most), z, drop-append-seam d w, k)
+    rw (run-of e f, within-long l, z, drop-append-seam d w, k)

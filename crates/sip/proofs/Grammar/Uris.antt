@@ -1,19 +1,19 @@
 -- URIs: `uri` reads at the front of a text exactly what the grammar derives there; the front of a URI apart from its tail.
-use mathlib.Core.Path.{_≡_, refl, _∙_, sym}
+use mathlib.Core.Path.{_≡_, refl, _∙_, sym, ap}
 use mathlib.Core.Bool.{Bool, true, false, cond}
 use mathlib.Core.List.{List, [], _∷_, _++_, append-assoc, append-nil}
-use Prim.Native.Nat.{ℕ, _+_, _≤_}
+use Prim.Native.Nat.{ℕ, _+_, _≤_, _<_}
 use native.Mathlib.Omega.{arith}
 use lib.ListN.{length, take, drop, length-append, take-append-drop}
 use lib.Seq.{take-at, drop-at}
-use Rattle.octets.specs.Classes.{text}
+use Rattle.octets.specs.Classes.{isToken, text}
 use Rattle.octets.specs.Scans.{all, lower, sameText}
-use Rattle.octets.proofs.Texts.{agree-length, sameText-agree}
 use Rattle.sip.specs.declared.UriAt.{UriAt}
 use Rattle.sip.specs.Values.{noUri, tail, sip, tel, uri}
-use Rattle.sip.specs.Grammar.{AnyCase, Tail, no-tail, UriParts, sip-parts, tel-parts, Uri, sip-uri, tel-uri, tailOf}
+use Rattle.sip.specs.Grammar.{AnyCase, case-end, as-it-is, as-capital, Token, Tail, no-tail, UriParts, sip-parts, tel-parts, Uri}
+use Rattle.sip.specs.Grammar.{sip-uri, tel-uri, tailOf}
 use Rattle.sip.proofs.Texts.{same-parts}
-use Rattle.sip.proofs.Grammar.Bytes.{case-same, same-case}
+use Rattle.sip.proofs.Grammar.Bytes.{case-length, case-same, same-case, word-token}
 use Rattle.sip.proofs.Grammar.Schemes.{Clear, Front, SipView, TelView, no-sip, no-tel, sip-front, sip-here, sip-of, sip-view}
 use Rattle.sip.proofs.Grammar.Schemes.{tel-front, tel-here, tel-of, tel-view}
 
@@ -37,11 +37,11 @@ pub data UriView : List ℕ → UriAt → Type 0 where
 
 pub four-sip : {k : List ℕ} → AnyCase (text "sip:") k → length k ≡ 4
 unfolding text
-four-sip {k} e = sym (agree-length lower (text "sip:") k (sym (sameText-agree (text "sip:") k) ∙ case-same e))
+four-sip e = case-length e
 
 pub four-tel : {k : List ℕ} → AnyCase (text "tel:") k → length k ≡ 4
 unfolding text
-four-tel {k} e = sym (agree-length lower (text "tel:") k (sym (sameText-agree (text "tel:") k) ∙ case-same e))
+four-tel e = case-length e
 
 not-both : {k : List ℕ} → AnyCase (text "tel:") k → sameText (text "sip:") k ≡ false
 unfolding text sameText
@@ -132,3 +132,56 @@ front-uri {f} (tel-front e ds) = rw append-nil at (join (tel-front e ds) no-tail
 pub front-bare : {f : List ℕ} {u : UriParts} → Front f u → tailOf u ≡ []
 front-bare (sip-front e us hs ps) = refl
 front-bare (tel-front e ds) = refl
+
+-- ---- a URI begins with its scheme and a colon
+
+record Named (word k : List ℕ) : Type 0 where
+  name : List ℕ
+  made : k ≡ name ++ (58 ∷ [])
+  spelled : AnyCase word name
+
+-- a byte before the small letters has one case
+one-case : {c : ℕ} {k : List ℕ} → c < 97 → AnyCase (c ∷ []) k → k ≡ c ∷ []
+one-case h (as-it-is case-end) = refl
+one-case h (as-capital l m case-end) = absurd (omega arith)
+
+colon-last : (word : List ℕ) {k : List ℕ} → AnyCase (word ++ (58 ∷ [])) k → Named word k
+colon-last [] d = record { name = []; made = one-case (omega arith) d; spelled = case-end }
+colon-last (c ∷ word) (as-it-is d) =
+    let n = colon-last word d in
+    record { name = c ∷ n .name; made = ap (λ (x : List ℕ). c ∷ x) (n .made); spelled = as-it-is (n .spelled) }
+colon-last (_ ∷ word) (as-capital {b} l h d) =
+    let n = colon-last word d in
+    record { name = b ∷ n .name; made = ap (λ (x : List ℕ). b ∷ x) (n .made); spelled = as-capital l h (n .spelled) }
+
+pub record Begins (s : List ℕ) : Type 0 where
+  pub name : List ℕ
+  pub others : List ℕ
+  pub made : s ≡ name ++ (58 ∷ others)
+  pub is-token : Token name
+  pub sip-or-tel : (AnyCase (text "sip") name → ⊥) → (AnyCase (text "tel") name → ⊥) → ⊥
+
+after-name : (k name w r : List ℕ) → k ≡ name ++ (58 ∷ []) → (k ++ w) ++ r ≡ name ++ (58 ∷ (w ++ r))
+after-name k name w r e = ap (λ (x : List ℕ). (x ++ w) ++ r) e ∙ simp append-assoc
+
+pub begins : {s : List ℕ} {u : UriParts} → Uri s u → (r : List ℕ) → Begins (s ++ r)
+unfolding text isToken all
+begins (sip-uri {k} {a} {u} {h} {q} {d} {t} e us hs ps ts) r =
+    let n = colon-last (text "sip") e in
+    let w : List ℕ = a ++ (h ++ (q ++ t)) in
+    record {
+      name = n .name;
+      others = w ++ r;
+      made = after-name k (n .name) w r (n .made);
+      is-token = word-token (n .spelled) refl (omega arith);
+      sip-or-tel = λ x y. x (n .spelled);
+    }
+begins (tel-uri {k} {n = m} {t} e ds ts) r =
+    let n = colon-last (text "tel") e in
+    record {
+      name = n .name;
+      others = (m ++ t) ++ r;
+      made = after-name k (n .name) (m ++ t) r (n .made);
+      is-token = word-token (n .spelled) refl (omega arith);
+      sip-or-tel = λ x y. y (n .spelled);
+    }
