@@ -120,6 +120,7 @@ pub data Uri : List ℕ → UriParts → Type 0 where
       → Uri (k ++ (a ++ (h ++ (q ++ t)))) (sip-parts u h d t)
   tel-uri : {k n t : List ℕ} → AnyCase (text "tel:") k → TelNumber n → Tail t → Uri (k ++ (n ++ t)) (tel-parts n t)
 
+-- the tail, empty where there is none
 abbrev pub tailOf : UriParts → List ℕ
 tailOf (sip-parts u h d t) = t
 tailOf (tel-parts n t) = t
