@@ -42,14 +42,14 @@ global-no-gap : (s : List ℕ) → isGlobal s ≡ true → any isGap s ≡ false
 unfolding any isGap isBlank isBreak
 global-no-gap s e = ap (any isGap) (byte-start 43 s (global-digits s e .0)) ∙ digits-no-gap (drop 1 s) (global-digits s e .1)
 
--- ---- an identity
+-- ---- an identity: no gap stands in its number
 
-pub record Identity (v : List ℕ) : Type 0 where
+pub record PlainIdentity (v : List ℕ) : Type 0 where
   pub long : 0 < length v
   pub within-bytes : address v .at + 4 + personSize (address v .uri) ≤ length v
   pub plain : any isGap (identity v) ≡ false
 
-pub identity-inv : (v : List ℕ) → isIdentity v ≡ true → Identity v
+pub identity-inv : (v : List ℕ) → isIdentity v ≡ true → PlainIdentity v
 unfolding isIdentity
 identity-inv v e =
     let a : not (eqb (address v .size) 0) ≡ true = and-left _ _ e in

@@ -22,3 +22,4 @@ pub mod Firsts
 pub mod Addresses
 pub mod Identities
 pub mod Calling
+pub mod Grammar

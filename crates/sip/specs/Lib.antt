@@ -8,3 +8,5 @@ pub mod Change
 pub mod Readings
 pub mod Promises
 pub mod Starred
+pub mod Grammar
+pub mod GrammarPromises

@@ -3,12 +3,12 @@ use mathlib.Core.Path.{_≡_}
 use mathlib.Core.List.{List, [], _∷_, _++_}
 use Prim.Native.Nat.{ℕ, zero, suc}
 use Prim.Native.String.{String}
-use lib.ListN.{length}
+use lib.ListN.{drop}
 use Rattle.octets.specs.Classes.{text}
 use Rattle.causes.specs.Causes.{status, cause}
 use Rattle.sip.specs.Lines.{crlf}
 use Rattle.sip.specs.Refusals.{refusal}
-use Rattle.sip.specs.Screen.{Screened, refusing, sending, screened}
+use Rattle.sip.specs.Screen.{Screened, refusing, screened}
 
 -- "lines end in CRLF, the empty line last"
 unfoldable pub linesOf : List String → List ℕ
@@ -17,11 +17,11 @@ linesOf (l ∷ ls) = text l ++ (crlf ++ linesOf ls)
 
 -- the call with these lines for its start line, Max-Forwards, From, P-Asserted-Identity and Content-Length
 unfoldable pub callWith : String → String → List String → String → String → List ℕ
-callWith line forwards from identity length =
+callWith line forwards from asserted cut =
     linesOf
     (line ∷ "v: SIP/2.0/UDP relay.example;branch=z9hG4bK7" ∷ forwards
     ∷ (from ++ ("t: <sip:+33123456789@gw.example>" ∷ "i: 9x@relay.example" ∷ "CSeq: 1 INVITE" ∷ "m: <sip:relay.example>"
-    ∷ "Allow: INVITE, ACK, BYE" ∷ "X-Relay-Mode: text" ∷ identity ∷ "Privacy: id" ∷ length ∷ [])))
+    ∷ "Allow: INVITE, ACK, BYE" ∷ "X-Relay-Mode: text" ∷ asserted ∷ "Privacy: id" ∷ cut ∷ [])))
 
 abbrev invite : String
 invite = "INVITE sip:+33123456789@gw.example SIP/2.0"
@@ -70,8 +70,11 @@ Holds (statusGives s c) = cause s ≡ record { cause = c; refusal = 0 }
 abbrev refuses : List ℕ → ℕ → ℕ → ℕ → ℕ → Case
 refuses m reason reply detail missing = screening m 1 (blankBuffer 9216) (refusing (refusal reason reply detail missing) (blankBuffer 9216))
 
-abbrev sends : List ℕ → List ℕ → Case
-sends m o = screening m 1 (blankBuffer 9216) (sending o (blankBuffer 9216))
+-- the n bytes o go out, and the other bytes of the buffer stay
+abbrev sends : List ℕ → ℕ → List ℕ → Case
+sends m n o =
+    screening m 1 (blankBuffer 9216)
+    (record { answer = record { reason = 0; reply = 0; detail = 0; missing = 0; length = n }; buffer = o ++ drop n (blankBuffer 9216) })
 
 abbrev shortest : String
 shortest = "INVITE sip:+3312345@gw.example SIP/2.0"
@@ -79,7 +82,7 @@ shortest = "INVITE sip:+3312345@gw.example SIP/2.0"
 unfoldable pub starred : List Case
 starred =
     -- *none
-    sends call (printed invite)
+    sends call 337 (printed invite)
     -- *empty message: 3
     ∷ refuses [] 3 0 0 0
     -- *no fields: 12, detail 1, missing 9
@@ -93,7 +96,7 @@ starred =
     -- *`l: 1`: 11
     ∷ refuses (callWith invite hops caller identity "l: 1") 11 400 0 0
     -- *Request-URI user +3312345 accepted
-    ∷ sends (callWith shortest hops caller identity noBody) (printed shortest)
+    ∷ sends (callWith shortest hops caller identity noBody) 333 (printed shortest)
     -- *+331234: 15
     ∷ refuses (callWith "INVITE sip:+331234@gw.example SIP/2.0" hops caller identity noBody) 15 484 0 0
     -- *method INFO: 6

@@ -266,12 +266,17 @@ abbrev pub isList : Option (List (List ℕ)) → Bool
 isList none = false
 isList (some ts) = true
 
+-- the place of the first token that passes the test, from 1; n stand before. 0: none does
+unfoldable pub firstPlace : (List ℕ → Bool) → ℕ → List (List ℕ) → ℕ
+firstPlace p n [] = 0
+firstPlace p n (t ∷ ts) = let later = firstPlace p (suc n) ts in cond (p t) (suc n) later
+
 -- ---- "Privacy: one or more tokens parted by `;`"
 
 unfoldable pub isPrivacy : List ℕ → Bool
 isPrivacy v = isList (tokens 59 0 v)
 
-abbrev anyToken : (List ℕ → Bool) → List (List ℕ) → Bool
+abbrev pub anyToken : (List ℕ → Bool) → List (List ℕ) → Bool
 anyToken p [] = false
 anyToken p (t ∷ ts) = p t || anyToken p ts
 

@@ -1,0 +1,20 @@
+-- The readers of values find exactly what the grammar derives: from bytes up to the value of every field.
+pub mod Bytes
+pub mod Separators
+pub mod Escapes
+pub mod Tokens
+pub mod Param
+pub mod Params
+pub mod Hosts
+pub mod Schemes
+pub mod Uris
+pub mod Follows
+pub mod DisplayNames
+pub mod Addresses
+pub mod Parties
+pub mod Unique
+pub mod Numbers
+pub mod RequestUris
+pub mod Fields
+pub mod Promises
+pub mod Examples

@@ -1,0 +1,74 @@
+-- The promises over the grammar, each from its two halves.
+use Rattle.sip.specs.Values.{tagOf}
+use Rattle.sip.specs.Grammar.{Token, personOf}
+use Rattle.sip.specs.GrammarPromises.{TagsRead, IdRead, LackingRead, UriRead, OneUri, PersonRead, CalledRead, ToRead, FromRead}
+use Rattle.sip.specs.GrammarPromises.{OneParty, IdentityRead, PrivacyRead, RequireRead, FieldRead, MethodToken, SchemeRead}
+use Rattle.sip.specs.GrammarPromises.{TaggedRead, NoOther}
+use Rattle.sip.proofs.Change.{everything}
+use Rattle.sip.proofs.Grammar.Bytes.{each-all}
+use Rattle.sip.proofs.Grammar.Tokens.{id-complete, id-sound, lacking-complete, lacking-sound, privacy-complete, privacy-sound}
+use Rattle.sip.proofs.Grammar.Tokens.{require-complete, require-sound}
+use Rattle.sip.proofs.Grammar.Follows.{uri-complete, uri-sound}
+use Rattle.sip.proofs.Grammar.Parties.{from-complete, from-sound, identity-complete, identity-sound, tagged-complete, tagged-sound}
+use Rattle.sip.proofs.Grammar.Parties.{tags-found, to-complete, to-sound}
+use Rattle.sip.proofs.Grammar.Unique.{party-unique, person-found, uri-unique}
+use Rattle.sip.proofs.Grammar.RequestUris.{called-complete, called-sound, no-other, scheme-complete, scheme-sound}
+use Rattle.sip.proofs.Grammar.Fields.{formed-complete, formed-sound}
+
+pub scheme-read : SchemeRead
+scheme-read s = ((λ e. scheme-sound s e), (λ d. scheme-complete d))
+
+pub uri-read : UriRead
+uri-read s = ((λ e. uri-sound s e), (λ (u, d). uri-complete d))
+
+pub no-other-uri : NoOther
+no-other-uri s u d o = no-other d o
+
+pub one-uri : OneUri
+one-uri s u w d e = uri-unique d e
+
+pub person-read : PersonRead
+person-read s u d = person-found d
+
+pub called-read : CalledRead
+called-read s u d = rw (person-found d) ((λ e. called-sound (personOf u) e), (λ h. called-complete h))
+
+pub to-read : ToRead
+to-read v = ((λ e. let p = to-sound v e in (p .uri, p .tags, p .derived)), (λ (u, ts, d). to-complete d))
+
+pub tagged-read : TaggedRead
+tagged-read v = ((λ e. let (u, d) = tagged-sound v e in (tagOf v, u, d)), (λ (t, u, d). tagged-complete d))
+
+pub tags-read : TagsRead
+tags-read v u ts d = tags-found d
+
+pub from-read : FromRead
+from-read v t = ((λ (e, f). let (u, d) = from-sound v e in (u, rw f at d)), (λ (u, d). from-complete d))
+
+pub one-party : OneParty
+one-party v u w ts us d e = party-unique d e
+
+pub identity-read : IdentityRead
+identity-read v n = ((λ (e, f). rw f at (identity-sound v e)), (λ d. identity-complete d))
+
+pub privacy-read : PrivacyRead
+privacy-read v ts = ((λ (e, f). rw f at (privacy-sound v e)), (λ d. privacy-complete d))
+
+pub id-read : IdRead
+id-read v = ((λ e. id-sound v e), (λ (ts, d, h). id-complete d h))
+
+pub lacking-read : LackingRead
+lacking-read t = ((λ e. lacking-sound t e), (λ n. lacking-complete t n))
+
+pub require-read : RequireRead
+require-read v ts = ((λ (e, f). rw f at (require-sound v e)), (λ d. require-complete d))
+
+pub field-read : FieldRead
+field-read method m k v = ((λ e. formed-sound method k v e), (λ d. formed-complete m d))
+
+pub method-token : MethodToken
+method-token m l h e =
+    let r = everything m l h e in
+    let s = r .change .start-shaped in
+    let t : Token (r .change .line .method) = record { some = s .method-long; bytes = each-all (s .method-token) } in
+    rw (r .same-line) at t

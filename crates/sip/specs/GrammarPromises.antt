@@ -1,0 +1,93 @@
+-- The promises over the grammar, as statements; their proofs are in proofs/Grammar/. Each holds for every list of bytes: a value is
+-- accepted exactly if the grammar derives it, what is found in it is the derivation's part, and the grammar derives it in one way only.
+use mathlib.Core.Path.{_≡_}
+use mathlib.Core.Bool.{true, cond}
+use mathlib.Core.List.{List, [], _∷_}
+use mathlib.Core.Logic.{_↔_}
+use Prim.Native.Nat.{ℕ}
+use Rattle.octets.specs.Classes.{text}
+use Rattle.sip.specs.Values.{uri, person, isTo, isTagged, isFrom, tagOf, isIdentity, identity, tokens, listOr, isPrivacy, holdsId, isRequire}
+use Rattle.sip.specs.Values.{requiredTags, isLacking, isCalled}
+use Rattle.sip.specs.Lines.{Start, Header}
+use Rattle.sip.specs.Refusals.{lines, read, otherScheme, isUri, wellFormed}
+use Rattle.sip.specs.Grammar.{Token, Tokens, HasToken, SupportedTag, UriParts, Uri, personOf, Party, Identity, Called, OtherScheme, Formed}
+
+-- ---- Request-URI
+
+-- reason 7 applies exactly if the text before the first colon is a token and neither sip nor tel
+abbrev pub SchemeRead : Type 0
+SchemeRead = (s : List ℕ) → (otherScheme s ≡ true) ↔ OtherScheme s
+
+-- a text is taken for a URI exactly if the grammar derives it (reason 8)
+abbrev pub UriRead : Type 0
+UriRead = (s : List ℕ) → (isUri s ≡ true) ↔ ((u : UriParts) × Uri s u)
+
+-- a text that the grammar derives never has another scheme: reason 7 refuses no URI
+abbrev pub NoOther : Type 0
+NoOther = (s : List ℕ) (u : UriParts) → Uri s u → OtherScheme s → ⊥
+
+-- no URI has two readings: user, host, port and tail, or number and tail, are those of the bytes
+abbrev pub OneUri : Type 0
+OneUri = (s : List ℕ) (u w : UriParts) → Uri s u → Uri s w → u ≡ w
+
+-- the sip user, or the tel text after the colon, that is found in a URI is that of its derivation
+abbrev pub PersonRead : Type 0
+PersonRead = (s : List ℕ) (u : UriParts) → Uri s u → person (uri s) s ≡ personOf u
+
+-- it is taken for a called number exactly if the grammar derives one (reason 15)
+abbrev pub CalledRead : Type 0
+CalledRead = (s : List ℕ) (u : UriParts) → Uri s u → (isCalled (person (uri s) s) ≡ true) ↔ Called (personOf u)
+
+-- ---- From and To
+
+-- a value is good for To exactly if the grammar derives it
+abbrev pub ToRead : Type 0
+ToRead = (v : List ℕ) → (isTo v ≡ true) ↔ ((u : UriParts) × (ts : List (List ℕ)) × Party v u ts)
+
+-- a value is good for From, with the tag t, exactly if the grammar derives it with that tag
+abbrev pub FromRead : Type 0
+FromRead = (v t : List ℕ) → ((isFrom v ≡ true) × (tagOf v ≡ t)) ↔ ((u : UriParts) × Party v u (t ∷ []))
+
+-- To has a tag, so that an INVITE uses "re", exactly if the grammar derives it with one
+abbrev pub TaggedRead : Type 0
+TaggedRead = (v : List ℕ) → (isTagged v ≡ true) ↔ ((t : List ℕ) × (u : UriParts) × Party v u (t ∷ []))
+
+-- no tag is found, or the one of the derivation
+abbrev pub TagsRead : Type 0
+TagsRead = (v : List ℕ) (u : UriParts) (ts : List (List ℕ)) → Party v u ts → cond (isTagged v) (tagOf v ∷ []) [] ≡ ts
+
+-- no value of From or To has two readings
+abbrev pub OneParty : Type 0
+OneParty = (v : List ℕ) (u w : UriParts) (ts us : List (List ℕ)) → Party v u ts → Party v w us → (u ≡ w) × (ts ≡ us)
+
+-- ---- P-Asserted-Identity, Privacy, Require
+
+-- a value is a good identity, with the number n, exactly if the grammar derives it with that number; so it has one number
+abbrev pub IdentityRead : Type 0
+IdentityRead = (v n : List ℕ) → ((isIdentity v ≡ true) × (identity v ≡ n)) ↔ Identity v n
+
+-- a value is good for Privacy, with the tokens ts, exactly if the grammar derives it with these; so it has one list of tokens
+abbrev pub PrivacyRead : Type 0
+PrivacyRead = (v : List ℕ) (ts : List (List ℕ)) → ((isPrivacy v ≡ true) × (listOr (tokens 59 0 v) ≡ ts)) ↔ Tokens 59 v ts
+
+-- a Privacy value withholds the caller exactly if the grammar derives it with a token `id`
+abbrev pub IdRead : Type 0
+IdRead = (v : List ℕ) → (holdsId v ≡ true) ↔ ((ts : List (List ℕ)) × Tokens 59 v ts × HasToken (text "id") ts)
+
+-- a value is good for Require, with the tags ts, exactly if the grammar derives it with these; so it has one list of tags
+abbrev pub RequireRead : Type 0
+RequireRead = (v : List ℕ) (ts : List (List ℕ)) → ((isRequire v ≡ true) × (requiredTags v ≡ ts)) ↔ Tokens 44 v ts
+
+-- we lack a required tag exactly if it is not one that we have
+abbrev pub LackingRead : Type 0
+LackingRead = (t : List ℕ) → (isLacking t ≡ true) ↔ (SupportedTag t → ⊥)
+
+-- ---- every field
+
+-- the value of any field is well formed exactly if the grammar derives it (reason 10), in a message whose method is a token
+abbrev pub FieldRead : Type 0
+FieldRead = (method : List ℕ) → Token method → (k : ℕ) (v : List ℕ) → (wellFormed method k v ≡ true) ↔ Formed method k v
+
+-- and it is one in every message that reads
+abbrev pub MethodToken : Type 0
+MethodToken = (m : List ℕ) (l : Start) (h : Header) → lines m ≡ read l h → Token (l .method)
