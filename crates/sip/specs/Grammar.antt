@@ -1,7 +1,7 @@
--- Document 01, "Values that are read", as a grammar: what a value is made of, in the page's words and RFC 3261's names. Nothing here
--- reads: a value is derived from its parts, which are put together by `++`, and no rule says where a part ends but what the part itself
--- is. What each relation speaks of comes first, then the parts that it has. The readers of `Values.antt` find exactly this:
--- `GrammarPromises.antt` says so.
+-- Document 01, "Values that are read", as a grammar: what a value is made of, in the page's words and RFC 3261's names. "These speak of
+-- canonical values." A value is put together from its parts by `++`, and no rule looks ahead: a part ends where its own definition lets it
+-- end. A relation speaks of a text; a list or `UriParts` after the text is what is found in it; a word, separator, method or field number
+-- before it is given. The readers of `Values.antt` find exactly this: `GrammarPromises.antt` says so.
 use mathlib.Core.Path.{_≡_}
 use mathlib.Core.Bool.{Bool, true, false}
 use mathlib.Core.List.{List, [], _∷_, _++_}
@@ -12,6 +12,7 @@ use Rattle.octets.specs.Scans.{decimal}
 
 -- Bytes are written by their numbers: 34 is `"`, 37 `%`, 43 `+`, 44 `,`, 58 `:`, 59 `;`, 60 `<`, 61 `=`, 62 `>`, 64 `@`, 92 a backslash;
 -- 49 to 57 are the digits 1 to 9, 65 to 90 the capitals, which stand 32 before their small letters.
+-- `decimal 0 d` is the number that the digits d write.
 
 -- ---- bytes
 
@@ -25,24 +26,25 @@ pub record Long (lo hi : ℕ) (s : List ℕ) : Type 0 where
   pub least : lo ≤ length s
   pub most : length s ≤ hi
 
--- a word "in any case": each of its letters, which are small, as it is or as a capital
+-- the word "in any case": it is given in small letters, and the text has each of them as it is or as a capital
 pub data AnyCase : List ℕ → List ℕ → Type 0 where
   case-end : AnyCase [] []
   as-it-is : {b : ℕ} {word s : List ℕ} → AnyCase word s → AnyCase (b ∷ word) (b ∷ s)
   as-capital : {b : ℕ} {word s : List ℕ} → 65 ≤ b → b ≤ 90 → AnyCase word s → AnyCase ((b + 32) ∷ word) (b ∷ s)
 
 -- bytes of the class, "or `%` and two hex digits", any number of them
-pub data Escaped (p : ℕ → Bool) : List ℕ → Type 0 where
-  no-bytes : Escaped p []
-  one-byte : {b : ℕ} {s : List ℕ} → p b ≡ true → Escaped p s → Escaped p (b ∷ s)
-  one-escape : {h l : ℕ} {s : List ℕ} → isHex h ≡ true → isHex l ≡ true → Escaped p s → Escaped p (37 ∷ h ∷ l ∷ s)
+pub data BytesOrEscapes (p : ℕ → Bool) : List ℕ → Type 0 where
+  no-bytes : BytesOrEscapes p []
+  one-byte : {b : ℕ} {s : List ℕ} → p b ≡ true → BytesOrEscapes p s → BytesOrEscapes p (b ∷ s)
+  one-escape : {h l : ℕ} {s : List ℕ} → isHex h ≡ true → isHex l ≡ true → BytesOrEscapes p s → BytesOrEscapes p (37 ∷ h ∷ l ∷ s)
 
 -- RFC 3261's token: one or more token bytes
 pub record Token (s : List ℕ) : Type 0 where
   pub some : 1 ≤ length s
   pub bytes : Each isToken s
 
--- "A quoted string closes at the first `"` that no backslash escapes.": what stands after its first `"`
+-- "A quoted string closes at the first `"` that no backslash escapes.": what stands after its first `"`. A backslash escapes the one byte
+-- after it, another backslash too. The page sets no other limit to the bytes, so this is wider than RFC 3261's qdtext and quoted-pair
 pub data QuotedRest : List ℕ → Type 0 where
   close-quote : QuotedRest (34 ∷ [])
   qdtext : {b : ℕ} {s : List ℕ} → (b ≡ 34 → ⊥) → (b ≡ 92 → ⊥) → QuotedRest s → QuotedRest (b ∷ s)
@@ -51,7 +53,8 @@ pub data QuotedRest : List ℕ → Type 0 where
 pub data QuotedString : List ℕ → Type 0 where
   quoted-string : {s : List ℕ} → QuotedRest s → QuotedString (34 ∷ s)
 
--- the byte b, "spaces or tabs free around it": RFC 3261's SEMI, EQUAL and COMMA
+-- the byte b with "spaces or tabs free around it" (Privacy), "around them" (Require), "around `;` and `=`" (parameters): RFC 3261's SEMI,
+-- COMMA and EQUAL
 pub data Separator (b : ℕ) : List ℕ → Type 0 where
   blanks-around : {x y : List ℕ} → Each isBlank x → Each isBlank y → Separator b (x ++ (b ∷ y))
 
@@ -82,10 +85,10 @@ pub record CallId (v : List ℕ) : Type 0 where
 -- ---- URI
 
 -- "optionally user (1 to 64 bytes) and `@`"; "User bytes are RFC 3261's unreserved and user-unreserved, or `%` and two hex digits.": the
--- text, and the user
+-- text, and the user. An escape counts as its three bytes
 pub data Userinfo : List ℕ → List ℕ → Type 0 where
   no-user : Userinfo [] []
-  user-at : {u : List ℕ} → Escaped isUser u → Long 1 64 u → Userinfo (u ++ (64 ∷ [])) u
+  user-at : {u : List ℕ} → BytesOrEscapes isUser u → Long 1 64 u → Userinfo (u ++ (64 ∷ [])) u
 
 -- "host (1 to 253 letters, digits, `-`, `.`)"
 pub record Host (s : List ℕ) : Type 0 where
@@ -100,7 +103,7 @@ pub data Port : List ℕ → List ℕ → Type 0 where
 -- "optionally a tail"; "A tail is `;` and any number of parameter bytes: RFC 3261's paramchar set, `;`, `=`, or `%` and two hex digits."
 pub data Tail : List ℕ → Type 0 where
   no-tail : Tail []
-  tail-of : {s : List ℕ} → Escaped isParameter s → Tail (59 ∷ s)
+  tail-of : {s : List ℕ} → BytesOrEscapes isParameter s → Tail (59 ∷ s)
 
 -- "optional `+`, 1 to 15 digits"
 pub data TelNumber : List ℕ → Type 0 where
@@ -125,7 +128,8 @@ abbrev pub tailOf : UriParts → List ℕ
 tailOf (sip-parts u h d t) = t
 tailOf (tel-parts n t) = t
 
--- "The sip user, or all of a tel URI after its colon"
+-- "The sip user, or all of a tel URI after its colon"; of the called number "the sip user, or the tel text after its colon". Empty for a sip
+-- URI without a user
 abbrev pub personOf : UriParts → List ℕ
 personOf (sip-parts u h d t) = u
 personOf (tel-parts n t) = n ++ t
@@ -174,7 +178,8 @@ pub data Params : List ℕ → List (List ℕ) → Type 0 where
   no-params : Params [] []
   param-and : {p s : List ℕ} {t ts : List (List ℕ)} → Param p t → Params s ts → Params (p ++ s) (t ++ ts)
 
--- From or To: the value, the parts of its URI, and its tags, of which there is at most one. From has one
+-- From or To: the value, the parts of its URI, and its tags, of which there is at most one. That From needs one stands in
+-- `from-value`
 pub data Party : List ℕ → UriParts → List (List ℕ) → Type 0 where
   party-of : {a p : List ℕ} {u : UriParts} {ts : List (List ℕ)} → Address a u → Params p ts → length ts ≤ 1 → Party (a ++ p) u ts
 
@@ -202,9 +207,9 @@ pub data HasToken (word : List ℕ) : List (List ℕ) → Type 0 where
   token-later : {t : List ℕ} {ts : List (List ℕ)} → HasToken word ts → HasToken word (t ∷ ts)
 
 -- "We have `100rel` and `timer` (any case)."
-pub data SupportedTag : List ℕ → Type 0 where
-  tag-100rel : {t : List ℕ} → AnyCase (text "100rel") t → SupportedTag t
-  tag-timer : {t : List ℕ} → AnyCase (text "timer") t → SupportedTag t
+pub data OurOptionTag : List ℕ → Type 0 where
+  our-100rel : {t : List ℕ} → AnyCase (text "100rel") t → OurOptionTag t
+  our-timer : {t : List ℕ} → AnyCase (text "timer") t → OurOptionTag t
 
 -- ---- "Called number (initial INVITE only): the sip user, or the tel text after its colon, is a number alone or a number, `;` and any
 -- bytes or none. A number has the form of P-Asserted-Identity's, or is 2 to 6 digits."
@@ -219,7 +224,8 @@ pub data Called : List ℕ → Type 0 where
 
 -- ---- reason 7: "Request-URI scheme (all before the first colon) is a token but neither sip nor tel in any case"
 
--- the text, and all before its first colon
+-- the text, and all before its first colon. A text without a colon has no scheme: one that is no URI either is "Request-URI otherwise
+-- malformed" (reason 8)
 pub data Scheme : List ℕ → List ℕ → Type 0 where
   at-colon : (r : List ℕ) → Scheme (58 ∷ r) []
   before-colon : {b : ℕ} {s k : List ℕ} → (b ≡ 58 → ⊥) → Scheme s k → Scheme (b ∷ s) (b ∷ k)
@@ -234,7 +240,8 @@ pub data OtherScheme : List ℕ → Type 0 where
 abbrev pub notEmpty : List ℕ
 notEmpty = 1 ∷ 7 ∷ 9 ∷ 10 ∷ 11 ∷ 18 ∷ []
 
--- the fields of which the page says how their values are read. "Supported, Accept and Allow may be empty."
+-- the fields whose value can be malformed. Of Allow (12), Supported (13) and Accept (17) any value is good: "Supported, Accept and Allow
+-- may be empty."
 abbrev pub readFields : List ℕ
 readFields = notEmpty ++ (2 ∷ 3 ∷ 4 ∷ 5 ∷ 6 ∷ 8 ∷ 14 ∷ 15 ∷ 16 ∷ [])
 

@@ -1,5 +1,8 @@
--- The promises over the grammar, as statements; their proofs are in proofs/Grammar/. Each holds for every list of bytes: a value is
--- accepted exactly if the grammar derives it, what is found in it is the derivation's part, and the grammar derives it in one way only.
+-- The promises over the grammar, as statements; their proofs are in proofs/Grammar/. Each holds for every list of bytes (`FieldRead` for
+-- every method that is a token): a value is accepted exactly if the grammar derives it, what is found in it is the derivation's part, and no
+-- two derivations of a value give it different parts. These are the tests that `Refusals.antt` asks of a message: `otherScheme`, `isUri`
+-- and `isCalled` of its Request-URI (reasons 7, 8 and 15), `wellFormed` of the canonical value of each kept field, with the method of the
+-- start line (reason 10), `isTagged` of To ("re"), `holdsId` of a Privacy that is not ignored, `isLacking` of each required tag (reason 14).
 use mathlib.Core.Path.{_≡_}
 use mathlib.Core.Bool.{true, cond}
 use mathlib.Core.List.{List, [], _∷_}
@@ -10,15 +13,15 @@ use Rattle.sip.specs.Values.{uri, person, isTo, isTagged, isFrom, tagOf,
 use Rattle.sip.specs.Values.{requiredTags, isLacking, isCalled}
 use Rattle.sip.specs.Lines.{Start, Header}
 use Rattle.sip.specs.Refusals.{lines, read, otherScheme, isUri, wellFormed}
-use Rattle.sip.specs.Grammar.{Token, Tokens, HasToken, SupportedTag, UriParts, Uri, personOf, Party, Identity, Called, OtherScheme, Formed}
+use Rattle.sip.specs.Grammar.{Token, Tokens, HasToken, OurOptionTag, UriParts, Uri, personOf, Party, Identity, Called, OtherScheme, Formed}
 
 -- ---- Request-URI
 
--- reason 7 applies exactly if the text before the first colon is a token and neither sip nor tel
+-- the test for reason 7 holds exactly if the text before the first colon is a token, and neither sip nor tel in any case
 abbrev pub SchemeRead : Type 0
 SchemeRead = (s : List ℕ) → (otherScheme s ≡ true) ↔ OtherScheme s
 
--- a text is taken for a URI exactly if the grammar derives it (reason 8)
+-- a text is taken for a URI exactly if the grammar derives it (else, where it has no other scheme, it is reason 8)
 abbrev pub UriRead : Type 0
 UriRead = (s : List ℕ) → (isUri s ≡ true) ↔ ((u : UriParts) × Uri s u)
 
@@ -26,7 +29,7 @@ UriRead = (s : List ℕ) → (isUri s ≡ true) ↔ ((u : UriParts) × Uri s u)
 abbrev pub NoOther : Type 0
 NoOther = (s : List ℕ) (u : UriParts) → Uri s u → OtherScheme s → ⊥
 
--- no URI has two readings: user, host, port and tail, or number and tail, are those of the bytes
+-- no URI has two readings: user, host, port and tail, or number and tail, are fixed by its bytes
 abbrev pub OneUri : Type 0
 OneUri = (s : List ℕ) (u w : UriParts) → Uri s u → Uri s w → u ≡ w
 
@@ -34,7 +37,8 @@ OneUri = (s : List ℕ) (u w : UriParts) → Uri s u → Uri s w → u ≡ w
 abbrev pub PersonRead : Type 0
 PersonRead = (s : List ℕ) (u : UriParts) → Uri s u → person (uri s) s ≡ personOf u
 
--- it is taken for a called number exactly if the grammar derives one (reason 15)
+-- the sip user, or the tel text, is taken for a called number exactly if the grammar derives one (else, in an initial INVITE, it is reason
+-- 15)
 abbrev pub CalledRead : Type 0
 CalledRead = (s : List ℕ) (u : UriParts) → Uri s u → (isCalled (person (uri s) s) ≡ true) ↔ Called (personOf u)
 
@@ -48,11 +52,11 @@ ToRead = (v : List ℕ) → (isTo v ≡ true) ↔ ((u : UriParts) × (ts : List 
 abbrev pub FromRead : Type 0
 FromRead = (v t : List ℕ) → ((isFrom v ≡ true) × (tagOf v ≡ t)) ↔ ((u : UriParts) × Party v u (t ∷ []))
 
--- To has a tag, so that an INVITE uses "re", exactly if the grammar derives it with one
+-- a value is found to have a tag, the test for "re", exactly if the grammar derives it with one
 abbrev pub TaggedRead : Type 0
 TaggedRead = (v : List ℕ) → (isTagged v ≡ true) ↔ ((t : List ℕ) × (u : UriParts) × Party v u (t ∷ []))
 
--- no tag is found, or the one of the derivation
+-- the tags that are found are those of the derivation: none, or the one
 abbrev pub TagsRead : Type 0
 TagsRead = (v : List ℕ) (u : UriParts) (ts : List (List ℕ)) → Party v u ts → cond (isTagged v) (tagOf v ∷ []) [] ≡ ts
 
@@ -70,7 +74,7 @@ IdentityRead = (v n : List ℕ) → ((isIdentity v ≡ true) × (identity v ≡ 
 abbrev pub PrivacyRead : Type 0
 PrivacyRead = (v : List ℕ) (ts : List (List ℕ)) → ((isPrivacy v ≡ true) × (listOr (tokens 59 0 v) ≡ ts)) ↔ Tokens 59 v ts
 
--- a Privacy value withholds the caller exactly if the grammar derives it with a token `id`
+-- a value passes the test for "withheld" exactly if the grammar derives it with a token `id`
 abbrev pub IdRead : Type 0
 IdRead = (v : List ℕ) → (holdsId v ≡ true) ↔ ((ts : List (List ℕ)) × Tokens 59 v ts × HasToken (text "id") ts)
 
@@ -80,7 +84,7 @@ RequireRead = (v : List ℕ) (ts : List (List ℕ)) → ((isRequire v ≡ true) 
 
 -- we lack a required tag exactly if it is not one that we have
 abbrev pub LackingRead : Type 0
-LackingRead = (t : List ℕ) → (isLacking t ≡ true) ↔ (SupportedTag t → ⊥)
+LackingRead = (t : List ℕ) → (isLacking t ≡ true) ↔ (OurOptionTag t → ⊥)
 
 -- ---- every field
 
@@ -88,6 +92,6 @@ LackingRead = (t : List ℕ) → (isLacking t ≡ true) ↔ (SupportedTag t → 
 abbrev pub FieldRead : Type 0
 FieldRead = (method : List ℕ) → Token method → (k : ℕ) (v : List ℕ) → (wellFormed method k v ≡ true) ↔ Formed method k v
 
--- and it is one in every message that reads
+-- the method of the start line is a token in every message whose lines read
 abbrev pub MethodToken : Type 0
 MethodToken = (m : List ℕ) (l : Start) (h : Header) → lines m ≡ read l h → Token (l .method)

@@ -11,6 +11,7 @@ use lib.ListN.{length, take, drop}
 use Rattle.octets.specs.Classes.{isToken}
 use Rattle.octets.specs.Scans.{run}
 use Rattle.sip.specs.Values.{isEmpty, sign, withToken, tokens, firstPlace}
+use Rattle.sip.proofs.Grammar.Tokens.{tokens-passed}
 use Rattle.values.specs.declared.ListAt.{ListAt}
 use Rattle.values.specs.Answers.{listAt}
 use Rattle.values.proofs.Within.{is-zero, not-zero}
@@ -27,12 +28,6 @@ has-bytes (b ∷ s) h = refl
 
 -- ---- the first token
 
-passed : (sep k : ℕ) (s : List ℕ) → tokens sep k s ≡ tokens sep 0 (drop k s)
-unfolding tokens
-passed sep zero s = refl
-passed sep (suc k) [] = refl
-passed sep (suc k) (b ∷ s) = passed sep k s
-
 module _ (sep : ℕ) where
   pub no-first : (t : List ℕ) → run isToken t < 1 → tokens sep 0 t ≡ none
   unfolding tokens
@@ -41,7 +36,7 @@ module _ (sep : ℕ) where
 
   pass : (b : ℕ) (s : List ℕ) (k : ℕ) → 1 ≤ k → tokens sep (k - 1) s ≡ tokens sep 0 (drop k (b ∷ s))
   pass b s zero h = absurd (omega arith)
-  pass b s (suc k) h = let e : suc k - 1 ≡ k = omega arith in rw e (passed sep k s)
+  pass b s (suc k) h = let e : suc k - 1 ≡ k = omega arith in rw e (tokens-passed sep k s)
 
   pub a-first : (t : List ℕ) → 1 ≤ run isToken t → 1 ≤ length t
       → tokens sep 0 t ≡ cond (isEmpty (drop (run isToken t) t)) (some (take (run isToken t) t ∷ []))

@@ -12,19 +12,13 @@ use Rattle.octets.proofs.Places.{drop1}
 use Rattle.sip.specs.declared.ParamAt.{ParamAt}
 use Rattle.sip.specs.declared.ParamsAt.{ParamsAt}
 use Rattle.sip.specs.Values.{param, withParam, stops, params, noParams}
+use Rattle.sip.proofs.Grammar.Params.{params-passed}
 use Rattle.values.proofs.Within.{within-in}
 
 -- a value of 1 to `most` bytes, where 0 stands for none
 pub up-to : (most n : ℕ) → n ≤ most → n ≡ cond (within 1 most n) n 0
 up-to most zero h = refl
 up-to most (suc m) h = rw (within-in 1 most (suc m) (omega arith) h)
-
--- bytes that are read already are passed
-pub passed : (got : ParamsAt) (k : ℕ) (s : List ℕ) → params got k s ≡ params got 0 (drop k s)
-unfolding params
-passed got zero s = refl
-passed got (suc k) [] = refl
-passed got (suc k) (b ∷ s) = passed got k s
 
 module _ (s : List ℕ) (got : ParamsAt) (e : params noParams 0 s ≡ params got 0 (drop (got .size) s)) where
   pub ended : length s ≤ got .size → got ≡ params noParams 0 s
@@ -54,7 +48,7 @@ module _ (s : List ℕ) (got : ParamsAt) (e : params noParams 0 s ≡ params got
         let k : got .size + 1 + (p .size - 1) ≡ g .size = omega (arith, some y) in
         e
         ∙ rw (drop1 s (got .size) h, is, ← hb, y, ← hg)
-        (passed g (p .size - 1) (drop (got .size + 1) s) ∙ rw (drop-drop (p .size - 1) (got .size + 1) s, k))
+        (params-passed g (p .size - 1) (drop (got .size + 1) s) ∙ rw (drop-drop (p .size - 1) (got .size + 1) s, k))
 
     pub less : b ≡ false → {n : ℕ} → n ≡ got .size + p .size → length s - n < length s - got .size
     less y z = omega (arith, some y)

@@ -9,7 +9,7 @@ use lib.ListN.{length}
 use borrow.Author.Tests.{ne-eqb, eqb-true, eqb-false}
 use Rattle.octets.specs.Classes.{isHex}
 use Rattle.octets.specs.Scans.{escape, runEscaped, more, closes, quoted}
-use Rattle.sip.specs.Grammar.{Escaped, no-bytes, one-byte, one-escape, QuotedRest, close-quote, qdtext, quoted-pair, QuotedString}
+use Rattle.sip.specs.Grammar.{BytesOrEscapes, no-bytes, one-byte, one-escape, QuotedRest, close-quote, qdtext, quoted-pair, QuotedString}
 use Rattle.sip.specs.Grammar.{quoted-string}
 use Rattle.sip.proofs.Tests.{and-left, and-right}
 
@@ -19,7 +19,7 @@ pub record EscapedEnds (p : ℕ → Bool) (r : List ℕ) : Type 0 where
   pub ends : runEscaped p 0 r ≡ 0
 
 pub data EscapedView (p : ℕ → Bool) : List ℕ → ℕ → Type 0 where
-  went : {x r : List ℕ} → Escaped p x → EscapedEnds p r → EscapedView p (x ++ r) (length x)
+  went : {x r : List ℕ} → BytesOrEscapes p x → EscapedEnds p r → EscapedView p (x ++ r) (length x)
 
 module _ (p : ℕ → Bool) where
   pub escaped-end : EscapedEnds p []
@@ -67,7 +67,7 @@ module _ (p : ℕ → Bool) where
   escaped-view (b ∷ h ∷ []) = view-short b (h ∷ []) 0 refl (escaped-view (h ∷ []))
   escaped-view (b ∷ h ∷ l ∷ s) = view-long b h l s (escaped-view (h ∷ l ∷ s)) (escaped-view s)
 
-  pub escaped-of : {x r : List ℕ} → p 37 ≡ false → Escaped p x → EscapedEnds p r → runEscaped p 0 (x ++ r) ≡ length x
+  pub escaped-of : {x r : List ℕ} → p 37 ≡ false → BytesOrEscapes p x → EscapedEnds p r → runEscaped p 0 (x ++ r) ≡ length x
   unfolding runEscaped
   escaped-of z no-bytes g = g .ends
   escaped-of z (one-byte e d) g = rw (e, escaped-of z d g)

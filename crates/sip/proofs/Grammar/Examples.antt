@@ -66,7 +66,7 @@ module _ (p : ℕ → List ℕ → Bool) (R : ℕ → List ℕ → Type 0) (read
 abbrev good : List Row
 good =
     row 2 "0" ∷ row 2 "255" ∷ row 2 "007"
-    ∷ row 3 "<sip:h>;tag=a"
+    ∷ row 3 "<sip:+33187654321@relay.example>;tag=a1"
     ∷ row 4 "sip:a;b?c@d"
     ∷ row 4 "sip:h;x=\"a@b\""
     ∷ row 4 "sip:h:5060 ; tag = 7"
@@ -88,7 +88,7 @@ good =
 abbrev bad : List Row
 bad =
     row 2 "" ∷ row 2 "256" ∷ row 2 "0255" ∷ row 2 "1 "
-    ∷ row 3 "<sip:h>" ∷ row 3 "<sip:h;tag=a>"
+    ∷ row 3 "<sip:h>" ∷ row 3 "<sip:+33187654321@relay.example;tag=a1>"
     ∷ row 4 "<sip:h>;tag=a;Tag=b"
     ∷ row 4 "<sip:h>;tag"
     ∷ row 4 "<sip:h>;tag=\"a\""

@@ -12,7 +12,7 @@ use Rattle.octets.specs.Scans.{starts}
 use Rattle.sip.specs.declared.UriAt.{UriAt}
 use Rattle.sip.specs.Values.{tail, uri}
 use Rattle.sip.specs.Refusals.{isUri}
-use Rattle.sip.specs.Grammar.{Separator, blanks-around, Escaped, no-bytes, one-byte, one-escape, quoted-string, Token, GenValue}
+use Rattle.sip.specs.Grammar.{Separator, blanks-around, BytesOrEscapes, no-bytes, one-byte, one-escape, quoted-string, Token, GenValue}
 use Rattle.sip.specs.Grammar.{token-value, string-value, Param, name-alone, name-value, tag-value, Params, no-params, param-and}
 use Rattle.sip.specs.Grammar.{Tail, no-tail, tail-of, UriParts, sip-parts, tel-parts, Uri, tailOf}
 use Rattle.sip.proofs.Tests.{never, and-left, and-right, all-first}
@@ -44,7 +44,7 @@ hex-at : (b : ℕ) → isHex b ≡ true → b ≡ 64 → ⊥
 unfolding isHex
 hex-at b e q = let z : true ≡ false = sym e ∙ ap isHex q in never (cc)
 
-escaped-no-at : {s : List ℕ} → Escaped isParameter s → (r : List ℕ) → NoAt r → NoAt (s ++ r)
+escaped-no-at : {s : List ℕ} → BytesOrEscapes isParameter s → (r : List ℕ) → NoAt r → NoAt (s ++ r)
 unfolding isParameter
 escaped-no-at no-bytes r n = n
 escaped-no-at (one-byte {b} e d) r n = not-at {b = b} (λ q. let z : true ≡ false = sym e ∙ ap isParameter q in never (cc)) (escaped-no-at d r n)

@@ -22,12 +22,12 @@ use Rattle.sip.proofs.Grammar.Param.{some-param}
 
 -- ---- parameters that are read, after those of `got`
 
-skip : (got : ParamsAt) (k : ℕ) (s : List ℕ) → params got k s ≡ params got 0 (drop k s)
+-- bytes that are read already are passed
+pub params-passed : (got : ParamsAt) (k : ℕ) (s : List ℕ) → params got k s ≡ params got 0 (drop k s)
 unfolding params
-skip got zero [] = refl
-skip got zero (b ∷ s) = refl
-skip got (suc k) [] = refl
-skip got (suc k) (b ∷ s) = skip got k s
+params-passed got zero s = refl
+params-passed got (suc k) [] = refl
+params-passed got (suc k) (b ∷ s) = params-passed got k s
 
 drop-one : (n b : ℕ) (s : List ℕ) → 1 ≤ n → drop (n - 1) s ≡ drop n (b ∷ s)
 drop-one zero b s h = absurd (omega arith)
@@ -44,7 +44,7 @@ unfolding params
 params-go got [] h l e = absurd (omega arith)
 params-go got (b ∷ s) h l e =
     let q = param (b ∷ s) in
-    rw e (skip (withParam got q) (q .size - 1) s ∙ ap (params (withParam got q) 0) (drop-one (q .size) b s l))
+    rw e (params-passed (withParam got q) (q .size - 1) s ∙ ap (params (withParam got q) 0) (drop-one (q .size) b s l))
 
 -- a tag is there already
 abbrev has : ParamsAt → ℕ

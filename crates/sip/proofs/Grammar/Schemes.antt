@@ -12,7 +12,7 @@ use Rattle.octets.specs.Classes.{within, isDigit, text, bit, isUser, isHost}
 use Rattle.octets.specs.Scans.{run, all, starts, runEscaped}
 use Rattle.sip.specs.declared.UriAt.{UriAt}
 use Rattle.sip.specs.Values.{noUri, hostPort, tail, sipFrom, sip, tel}
-use Rattle.sip.specs.Grammar.{Each, Long, AnyCase, Escaped, Userinfo, no-user, user-at, Host, Port, no-port, port-of, Tail}
+use Rattle.sip.specs.Grammar.{Each, Long, AnyCase, BytesOrEscapes, Userinfo, no-user, user-at, Host, Port, no-port, port-of, Tail}
 use Rattle.sip.specs.Grammar.{TelNumber, digits-alone, plus-digits, UriParts, sip-parts, tel-parts}
 use Rattle.sip.proofs.Tests.{never, all-first, byte-start}
 use Rattle.sip.proofs.Grammar.Bytes.{Ends, RunView, all-of, long-of, ran, run-of, run-view, some-no, within-long}
@@ -74,13 +74,13 @@ sip-view s = go s (runEscaped isUser 0 s) (escaped-view isUser s)
     plain _ _ (from-here e p t r) = sip-here no-user e p t r
     plain _ _ no-from = no-sip
 
-    after : (x : List ℕ) → Escaped isUser x → Long 1 64 x → (s : List ℕ) (p : UriAt) → FromView (length x + 5) (length x) s p → SipView (x ++ (64 ∷ s)) p
+    after : (x : List ℕ) → BytesOrEscapes isUser x → Long 1 64 x → (s : List ℕ) (p : UriAt) → FromView (length x + 5) (length x) s p → SipView (x ++ (64 ∷ s)) p
     after x d l _ _ (from-here {h} {q} {t = t} e p b r) =
         let k : 4 + length (x ++ (64 ∷ [])) ≡ length x + 5 = rw (length-append x (64 ∷ [])) (omega arith) in
         rw (append-assoc x (64 ∷ []) (h ++ (q ++ (t ++ r))), k) at (sip-here (user-at d l) e p b r)
     after x d l _ _ no-from = no-sip
 
-    at : (x r : List ℕ) → Escaped isUser x
+    at : (x r : List ℕ) → BytesOrEscapes isUser x
         → SipView (x ++ r) (cond (starts 64 r) (cond (within 1 64 (length x)) (sipFrom (length x + 5) (length x) (drop 1 r)) noUri) (sipFrom 4 0 (x ++ r)))
     at x r d = choose (starts 64 r) refl (within 1 64 (length x)) refl
       where

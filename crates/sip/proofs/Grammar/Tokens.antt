@@ -13,8 +13,8 @@ use Rattle.octets.specs.Classes.{isBlank, isToken, text}
 use Rattle.octets.specs.Scans.{run, all, sameText}
 use Rattle.sip.specs.Values.{sign, isEmpty, withToken, listOr, isList, tokens, isPrivacy, isRequire, requiredTags, anyToken}
 use Rattle.sip.specs.Values.{holdsId, isLacking}
-use Rattle.sip.specs.Grammar.{Token, Tokens, last-token, token-and, HasToken, token-here, token-later, SupportedTag, tag-100rel}
-use Rattle.sip.specs.Grammar.{tag-timer}
+use Rattle.sip.specs.Grammar.{Token, Tokens, last-token, token-and, HasToken, token-here, token-later, OurOptionTag, our-100rel}
+use Rattle.sip.specs.Grammar.{our-timer}
 use Rattle.sip.proofs.Tests.{never}
 use Rattle.sip.proofs.ValueSizes.{not-none}
 use Rattle.sip.proofs.Grammar.Bytes.{Ends, RunView, case-same, end, isSmall, ran, run-of, run-view, same-case}
@@ -23,14 +23,14 @@ use Rattle.sip.proofs.Grammar.Separators.{signed, some-not-empty, token
 
 -- ---- one step
 
-module _ (b : ℕ) where
-  skip : (k : ℕ) (s : List ℕ) → tokens b k s ≡ tokens b 0 (drop k s)
-  unfolding tokens
-  skip zero [] = refl
-  skip zero (c ∷ s) = refl
-  skip (suc k) [] = refl
-  skip (suc k) (c ∷ s) = skip k s
+-- bytes that are read already are passed
+pub tokens-passed : (b k : ℕ) (s : List ℕ) → tokens b k s ≡ tokens b 0 (drop k s)
+unfolding tokens
+tokens-passed b zero s = refl
+tokens-passed b (suc k) [] = refl
+tokens-passed b (suc k) (c ∷ s) = tokens-passed b k s
 
+module _ (b : ℕ) where
   rest-tokens : ℕ → List ℕ → List ℕ → Option (List (List ℕ))
   rest-tokens e t r = cond (isEmpty r) (some (t ∷ [])) (cond (eqb e 0) none (withToken t (tokens b 0 (drop e r))))
 
@@ -41,7 +41,7 @@ module _ (b : ℕ) where
       let n : run isToken (c ∷ (t ++ r)) ≡ suc (length t) = run-of (h .bytes) f in
       let k : suc (length t) + sign b r - 1 ≡ length t + sign b r = omega arith in
       let z : eqb (suc (length t)) 0 ≡ false = ne-eqb (suc (length t)) 0 (λ q. omega arith) in
-      rw (n, z, drop-append-seam t r, take-append-seam t r, k, skip (length t + sign b r) (t ++ r), drop-append-add t r (sign b r))
+      rw (n, z, drop-append-seam t r, take-append-seam t r, k, tokens-passed b (length t + sign b r) (t ++ r), drop-append-add t r (sign b r))
 
   no-tokens : (s : List ℕ) → Ends isToken s → tokens b 0 s ≡ none
   unfolding tokens
@@ -161,20 +161,20 @@ pub id-complete : {v : List ℕ} {ts : List (List ℕ)} → Tokens 59 v ts → H
 unfolding holdsId
 id-complete d h = rw (privacy-complete d .1) (any-complete h)
 
-pub lacking-sound : (t : List ℕ) → isLacking t ≡ true → SupportedTag t → ⊥
+pub lacking-sound : (t : List ℕ) → isLacking t ≡ true → OurOptionTag t → ⊥
 unfolding isLacking
-lacking-sound t e (tag-100rel d) = let z : false ≡ true = rw (case-same d) at e in never (cc)
-lacking-sound t e (tag-timer d) = go (sameText (text "100rel") t) (rw (case-same d) at e)
+lacking-sound t e (our-100rel d) = let z : false ≡ true = rw (case-same d) at e in never (cc)
+lacking-sound t e (our-timer d) = go (sameText (text "100rel") t) (rw (case-same d) at e)
   where
     go : (a : Bool) → not (a || true) ≡ true → ⊥
     go true e = never (cc)
     go false e = never (cc)
 
-pub lacking-complete : (t : List ℕ) → (SupportedTag t → ⊥) → isLacking t ≡ true
+pub lacking-complete : (t : List ℕ) → (OurOptionTag t → ⊥) → isLacking t ≡ true
 unfolding isLacking text all
 lacking-complete t n = go (sameText (text "100rel") t) refl (sameText (text "timer") t) refl
   where
     go : (a : Bool) → sameText (text "100rel") t ≡ a → (b : Bool) → sameText (text "timer") t ≡ b → not (a || b) ≡ true
-    go true p b q = absurd (n (tag-100rel (same-case (text "100rel") t refl p)))
-    go false p true q = absurd (n (tag-timer (same-case (text "timer") t refl q)))
+    go true p b q = absurd (n (our-100rel (same-case (text "100rel") t refl p)))
+    go false p true q = absurd (n (our-timer (same-case (text "timer") t refl q)))
     go false p false q = refl
