@@ -27,7 +27,7 @@ use Rattle.judgement.specs.Judged.{columnTagged, decided, refusalOf, sil
 use Rattle.judgement.specs.Judges.{Told, nothing, also, Passes, Judges}
 use Rattle.judgement.proofs.Members.{kept-has}
 use Rattle.judgement.proofs.Each.{Each, Listed, entries-listed, kept-listed, WellFormed}
-use Rattle.judgement.proofs.Firsts.{HopsAre, TagIn, TagWithin, total-tagged, total-withheld, hops-there, tags-there, tags-within}
+use Rattle.judgement.proofs.Firsts.{HopsAre, TagIn, TagWithin, total-tagged, total-withheld, hops-there, tags-there, tags-within, number-is, number-there, number-none}
 use Rattle.judgement.proofs.Decisions.{Numbered, decided-numbered}
 use Rattle.judgement.proofs.Reasons.{all, body-there, body-is, first-is, none-repeats, all-formed, all-there, column-is}
 
@@ -177,6 +177,9 @@ module _ {m slots : List ℕ} {x : Message} (r : Reads m slots x) where
             told =
                 told-each _ _ es (hops-there (r .line .method) es formed repeats) (tags-there (r .line .method) es repeats)
                 (tags-within (r .line .method) es repeats);
+            number-is = number-is (r .line .method) es;
+            number-there = number-there (r .line .method) es formed;
+            number-none = number-none (r .line .method) es;
           }
 
     accepts-is : (o : Option Answer) → reason ≡ o → Numbered o → answered .refusal .reason ≡ 0 → Passes m slots answered

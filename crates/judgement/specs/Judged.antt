@@ -108,6 +108,7 @@ refusedFor r =
       body = 0;
       withheld = false;
       tag = noSpan;
+      number = noSpan;
     }
 
 -- by the column, the Request-URI and what the kept fields say
@@ -124,6 +125,7 @@ judgedBy h c method u t rest =
       body = bodyLength t rest;
       withheld = t .withheld;
       tag = t .tag;
+      number = t .number;
     }
 
 abbrev pub judgedAs : List ℕ → List ℕ → Message → ColumnOf → Judged

@@ -2,15 +2,17 @@
 use mathlib.Core.Path.{_≡_}
 use mathlib.Core.Bool.{false, not}
 use mathlib.Core.List.{List, [], _∷_}
+use mathlib.Core.Option.{none, some}
 use Prim.Native.Nat.{ℕ, _+_, _-_, _≤_}
 use lib.ListN.{length, take, drop}
 use Rattle.octets.specs.Scans.{decimal}
 use Rattle.sip.specs.declared.Span.{Span}
 use Rattle.sip.specs.Lines.{Header}
 use Rattle.sip.specs.Profile.{columnOf, ignored}
-use Rattle.sip.specs.Readings.{part}
+use Rattle.sip.specs.Readings.{noSpan, part}
 use Rattle.sip.specs.Values.{tagOf}
-use Rattle.sip.specs.Refusals.{refusal, read, lines, Entry, keptOf, withheld, Request, refused, accepted, judgement}
+use Rattle.sip.specs.Refusals.{refusal, read, lines, Entry, valueOf, keptOf, withheld, Request, refused, accepted, judgement}
+use Rattle.values.specs.Answers.{identityAt}
 use Rattle.judgement.specs.declared.Judged.{Judged}
 use Rattle.judgement.specs.Sets.{has}
 use Rattle.judgement.specs.Entries.{entriesFrom}
@@ -45,6 +47,9 @@ pub record Passes (m slots : List ℕ) (r : Judged) : Type 0 where
   pub body-there : r .body ≤ length m - r .rest
   pub withheld-is : withheld (request .fields) ≡ r .withheld
   pub told : Told (r .hops) (r .tag) (request .fields)
+  pub number-is : (v : List ℕ) → valueOf 15 (request .fields) ≡ some v → identityAt v ≡ r .number
+  pub number-there : (v : List ℕ) → valueOf 15 (request .fields) ≡ some v → r .number .len ≡ 0 → ⊥
+  pub number-none : valueOf 15 (request .fields) ≡ none → r .number ≡ noSpan
 
 -- a reason of 0 means that none applies
 pub record Judges (m slots : List ℕ) (r : Judged) : Type 0 where

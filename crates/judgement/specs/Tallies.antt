@@ -59,6 +59,7 @@ noted t n f =
       tags = cond (eqb n 14) (t .tags + f .len) (t .tags);
       lacking = cond (eqb n 14) (orElse (t .lacking) (cond (eqb (f .start) 0) 0 (t .tags + f .start))) (t .lacking);
       tag = cond (isFirst t 3 n) (record { start = f .start; len = f .len }) (t .tag);
+      number = cond (isFirst t 15 n) (record { start = f .start; len = f .len }) (t .number);
     }
 
 -- the same in three steps: what is noted of every field, what each Require says, and what the first of the others says
@@ -76,6 +77,7 @@ counted t n good =
       tags = t .tags;
       lacking = t .lacking;
       tag = t .tag;
+      number = t .number;
     }
 
 unfoldable pub required : Tally → Finding → Tally
@@ -91,6 +93,7 @@ required t f =
       tags = t .tags + f .len;
       lacking = orElse (t .lacking) (cond (eqb (f .start) 0) 0 (t .tags + f .start));
       tag = t .tag;
+      number = t .number;
     }
 
 unfoldable pub said : Tally → ℕ → Finding → Tally
@@ -106,6 +109,7 @@ said t n f =
       tags = t .tags;
       lacking = t .lacking;
       tag = cond (eqb n 3) (record { start = f .start; len = f .len }) (t .tag);
+      number = cond (eqb n 15) (record { start = f .start; len = f .len }) (t .number);
     }
 
 abbrev pub noTally : Tally
@@ -121,6 +125,7 @@ noTally =
       tags = 0;
       lacking = 0;
       tag = noSpan;
+      number = noSpan;
     }
 
 -- the tally with these fields after it

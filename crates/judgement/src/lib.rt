@@ -3,6 +3,7 @@ ghost use mathlib.Core.Path.{_≡_};
 ghost use Rattle.lines.specs.Index.{index};
 ghost use Rattle.judgement.specs.Sets.{has};
 ghost use Rattle.judgement.specs.Judged.{judgedMessage};
+ghost use Rattle.judgement.specs.Judges.{Judges};
 
 mod findings;
 mod refusals;
@@ -41,7 +42,8 @@ pub struct Finding {
 }
 
 // What the kept fields say so far: the set of numbers seen; the first that came again, the first malformed one; what the first
-// Max-Forwards, To, Privacy, Content-Length and From say; the required tags counted, and the place of the first that we lack.
+// Max-Forwards, To, Privacy, Content-Length, From and P-Asserted-Identity say; the required tags counted, and the place of the first
+// that we lack.
 pub struct Tally {
     pub seen: u32,
     pub again: usize,
@@ -53,11 +55,13 @@ pub struct Tally {
     pub tags: usize,
     pub lacking: usize,
     pub tag: sip::Span,
+    pub number: sip::Span,
 }
 
 // A request that no reason up to 15 refuses (reason 0), or the refusal. Of such a request: the lengths of method and Request-URI, where
 // the bytes after the empty line start, how many slots there are; the set of fields that it keeps, what its Max-Forwards says, the
-// length of its body, whether its caller is withheld, and where the tag of its From stands.
+// length of its body, whether its caller is withheld, and where the tag stands in its From and the number in its P-Asserted-Identity, both
+// in the canonical value (no part where there is none).
 pub struct Judged {
     pub refusal: Refusal,
     pub method: usize,
@@ -69,6 +73,7 @@ pub struct Judged {
     pub body: usize,
     pub withheld: bool,
     pub tag: sip::Span,
+    pub number: sip::Span,
 }
 
 // The set has the number. No number past 31 is in a set.
@@ -78,9 +83,15 @@ pub fn in_set(set: u32, n: usize) -> bool
     sets::in_set(set, n)
 }
 
-// Reads and judges a message. The slots are what `lines::read` leaves.
+// Reads and judges a message; the slots are what `lines::read` leaves. The answer is `judgedMessage`: what the pass over the slots comes to,
+// by masks and tallies. And it `Judges` the message in document 01's words: it refuses with just the page's numbers, or no reason up to
+// 15 applies, and then it and the slots say what the page's request is.
 pub fn judge(message: &[u8], slots: &mut [u16; 384]) -> Judged
-    ensures { λ r. ⌜ (r ≡ judgedMessage (now (message .entry))) × (now (slots .exit) ≡ index (now (message .entry)) .slots) ⌝ }
+    ensures { λ r. ⌜
+        (r ≡ judgedMessage (now (message .entry)))
+        × (now (slots .exit) ≡ index (now (message .entry)) .slots)
+        × Judges (now (message .entry)) (now (slots .exit)) r
+        ⌝ }
 {
     let m = lines::read(message, slots);
     let reason = m.reason;

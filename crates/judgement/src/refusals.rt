@@ -47,6 +47,7 @@ pub(crate) fn refused(r: Refusal) -> Judged
         body: 0,
         withheld: false,
         tag: Span { start: 0, len: 0 },
+        number: Span { start: 0, len: 0 },
     }
 }
 
@@ -222,6 +223,7 @@ fn judge_column(message: &[u8], m: Message, method: &[u8], c: Column, slots: &[u
     let t = tallies::tally(message, method, kept, slots, m.count);
     let r = decide(c, t, u, rest);
     let tag = t.tag;
+    let number = t.number;
     Judged {
         refusal: replied(is_ack(method), r),
         method: m.method,
@@ -233,6 +235,7 @@ fn judge_column(message: &[u8], m: Message, method: &[u8], c: Column, slots: &[u
         body: body_of(t, rest),
         withheld: t.withheld,
         tag,
+        number,
     }
 }
 

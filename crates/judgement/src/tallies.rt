@@ -83,7 +83,7 @@ fn require(t: Tally, f: Finding) -> Tally
     r
 }
 
-// What the first Max-Forwards, From, To, Content-Length and Privacy say.
+// What the first Max-Forwards, From, To, Content-Length, P-Asserted-Identity and Privacy say.
 fn say(t: Tally, n: usize, f: Finding) -> Tally
     ensures { λ r. ⌜ r ≡ said t n f ⌝ }
 {
@@ -106,6 +106,14 @@ fn say(t: Tally, n: usize, f: Finding) -> Tally
     }
     if n == 8 {
         r.length = f.len;
+        return r;
+    }
+    if n == 15 {
+        let number = Span {
+            start: f.start,
+            len: f.len,
+        };
+        r.number = number;
         return r;
     }
     if n == 16 {
@@ -199,6 +207,7 @@ pub(crate) fn tally(
         tags: 0,
         lacking: 0,
         tag: Span { start: 0, len: 0 },
+        number: Span { start: 0, len: 0 },
     };
     let mut i = 0;
     while i < count {

@@ -38,6 +38,7 @@ module _ (h : Message) (c : Column) (m method slots : List ℕ) {u : RequestUri}
           body = n;
           withheld = t .withheld;
           tag = t .tag;
+          number = t .number;
         }
         ≡ judgedBy h c method (requestUri (take (h .uri) (drop (h .method + 1) m)))
         (tallied method noTally (entriesFrom (keptSet c) m slots (h .count) 0)) (length m - h .rest)

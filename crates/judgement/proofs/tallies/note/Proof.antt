@@ -47,13 +47,13 @@ module _ (t : Tally) (n : ℕ) (f : Finding) {p : Tally} (e : p ≡ counted t n 
       unfolding noted counted
       again q h =
           let none-is : (k : ℕ) → (eqb n k && not (has (t .seen) k)) ≡ false = λ k. came (t .seen) n k (sym s ∙ q) (eqb n k) refl in
-          h ∙ rw (e, ne-eqb n 14 other, none-is 2, none-is 3, none-is 4, none-is 8, none-is 16)
+          h ∙ rw (e, ne-eqb n 14 other, none-is 2, none-is 3, none-is 4, none-is 8, none-is 15, none-is 16)
 
       first : b ≡ false → r ≡ said p n f → r ≡ noted t n f
       unfolding noted counted said
       first q h =
           let own-is : (k : ℕ) → (eqb n k && not (has (t .seen) k)) ≡ eqb n k = λ k. new (t .seen) n k (sym s ∙ q) (eqb n k) refl in
-          h ∙ rw (e, ne-eqb n 14 other, own-is 2, own-is 3, own-is 4, own-is 8, own-is 16)
+          h ∙ rw (e, ne-eqb n 14 other, own-is 2, own-is 3, own-is 4, own-is 8, own-is 15, own-is 16)
 
 count-requires : tie.Need-count-requires
 count-requires c κs = search needs
