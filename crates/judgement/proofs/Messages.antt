@@ -12,6 +12,7 @@ use Rattle.sip.specs.Lines.{Start, start, startSize, Header, header}
 use Rattle.sip.specs.Refusals.{refusal, Lines, unread, read, headerLines, startLines, lines, judgement, refused}
 use Rattle.lines.specs.declared.Message.{Message}
 use Rattle.lines.specs.Index.{indexOf, index}
+use Rattle.lines.proofs.Within.{slots-within}
 use Rattle.judgement.specs.declared.Refusal.{Refusal}
 use Rattle.judgement.specs.declared.Judged.{Judged}
 use Rattle.judgement.specs.Judged.{refusedFor, judgedLines, judgedMessage}
@@ -61,6 +62,7 @@ module _ (m : List ℕ) where
         uri-is = p .read-as .uri-part;
         rest-within = omega arith;
         rest-is = p .read-as .rest-part;
+        slots-within = λ i. rw q at (slots-within m i);
         slots-hold = p .entries;
       })
 

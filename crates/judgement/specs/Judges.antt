@@ -12,6 +12,7 @@ use Rattle.sip.specs.Profile.{columnOf, ignored}
 use Rattle.sip.specs.Readings.{noSpan, part}
 use Rattle.sip.specs.Values.{tagOf}
 use Rattle.sip.specs.Refusals.{refusal, read, lines, Entry, valueOf, keptOf, withheld, Request, refused, accepted, judgement}
+use Rattle.lines.specs.Index.{slotAt}
 use Rattle.values.specs.Answers.{identityAt}
 use Rattle.judgement.specs.declared.Judged.{Judged}
 use Rattle.judgement.specs.Sets.{has}
@@ -36,6 +37,7 @@ pub record Passes (m slots : List ℕ) (r : Judged) : Type 0 where
   pub is-read : lines m ≡ read (request .line) header
   pub short : length m ≤ 8192
   pub few : r .count ≤ 96
+  pub within : (i : ℕ) → slotAt slots i .start + slotAt slots i .len ≤ length m
   pub method-long : r .method ≡ length (request .line .method)
   pub uri-long : r .uri ≡ length (request .line .uri)
   pub line-within : r .method + 1 + r .uri ≤ length m
