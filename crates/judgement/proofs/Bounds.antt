@@ -16,10 +16,10 @@ use Rattle.sip.specs.declared.ParamAt.{ParamAt}
 use Rattle.sip.specs.declared.ParamsAt.{ParamsAt}
 use Rattle.sip.specs.declared.PartyAt.{PartyAt}
 use Rattle.sip.specs.Values.{isEmpty, isNumber, address, noParam, sign, paramValue, paramRest, param, noParams, withParam, stops, params, noParty, party}
-use Rattle.sip.specs.Values.{withToken, tokens, listOr, isLacking}
+use Rattle.sip.specs.Values.{withToken, tokens, listOr, firstPlace, isLacking}
 use Rattle.sip.proofs.Tests.{never, and-right}
 use Rattle.values.specs.declared.ListAt.{ListAt}
-use Rattle.values.specs.Answers.{wholeNumber, firstPlace, requireAt}
+use Rattle.values.specs.Answers.{wholeNumber, requireAt}
 use Rattle.judgement.specs.declared.Finding.{Finding}
 use Rattle.judgement.specs.declared.Tally.{Tally}
 use Rattle.judgement.specs.Tallies.{noted}

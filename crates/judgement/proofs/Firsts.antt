@@ -12,11 +12,11 @@ use Rattle.octets.specs.Classes.{text}
 use Rattle.octets.specs.Scans.{decimal, sameText}
 use Rattle.sip.specs.declared.Span.{Span}
 use Rattle.sip.specs.Profile.{once, find, rows}
-use Rattle.sip.specs.Values.{party, isTagged, tagOf, tokens, listOr, holdsId, isNumber, isMaxForwards, isContentLength}
+use Rattle.sip.specs.Values.{party, isTagged, tagOf, tokens, listOr, firstPlace, holdsId, isNumber, isMaxForwards, isContentLength}
 use Rattle.sip.specs.Refusals.{Entry, valueOf, occurs, toTagged, withheld, contentLength, noHops, firstRepeat, wellFormed}
 use Rattle.sip.specs.Readings.{noSpan, part}
 use Rattle.sip.proofs.Once.{at-most-once}
-use Rattle.values.specs.Answers.{wholeNumber, identityAt, firstPlace, privacyAt}
+use Rattle.values.specs.Answers.{wholeNumber, identityAt, privacyAt}
 use Rattle.judgement.specs.declared.Finding.{Finding}
 use Rattle.judgement.specs.declared.Tally.{Tally}
 use Rattle.judgement.specs.Sets.{has}
