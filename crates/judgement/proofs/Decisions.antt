@@ -7,12 +7,12 @@ use Prim.Native.Nat.{ℕ}
 use native.Mathlib.Omega.{arith}
 use lib.Dec.{eqb}
 use Rattle.sip.specs.declared.Column.{Column}
-use Rattle.sip.specs.Refusals.{Answer, refusal, when, firstOf}
+use Rattle.sip.specs.Refusals.{Answer, refusal, when, isInitial, firstOf}
 use Rattle.values.specs.declared.RequestUri.{RequestUri}
 use Rattle.judgement.specs.declared.Refusal.{Refusal}
 use Rattle.judgement.specs.declared.Tally.{Tally}
 use Rattle.judgement.specs.Sets.{lackAt}
-use Rattle.judgement.specs.Judged.{bodyLength, tooLong, hopless, initial, columnTagged, early, late, decided, refusalOf}
+use Rattle.judgement.specs.Judged.{bodyLength, tooLong, hopless, columnTagged, early, late, decided, refusalOf}
 
 first-some : (xs ys : List (Option Answer)) (a : Answer) → firstOf xs ≡ some a → firstOf (xs ++ ys) ≡ some a
 first-some [] ys a e = let z : _≡_ {A = ℕ} 0 1 = cc in absurd (omega arith)
@@ -77,7 +77,7 @@ module _ (t : Tally) (u : RequestUri) where
           (
             numbered (not (eqb (t .lacking) 0)) (refusal 14 420 (t .lacking) 0) (λ q. omega arith) refl,
             (
-              numbered (initial c && not (u .called)) (refusal 15 484 0 0) (λ q. omega arith) refl,
+              numbered (isInitial c && not (u .called)) (refusal 15 484 0 0) (λ q. omega arith) refl,
               tt,
             ),
           ),

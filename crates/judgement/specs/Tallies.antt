@@ -20,7 +20,7 @@ found good flag start len = record { good = good; flag = flag; start = start; le
 unfoldable pub finding : List ℕ → ℕ → List ℕ → Finding
 finding method n v =
     let hops = wholeNumber 3 255 v in
-    let length = wholeNumber 5 99999 v in
+    let cut = wholeNumber 5 99999 v in
     let p = party v in
     let privacy = privacyAt v in
     let tags = requireAt v in
@@ -31,7 +31,7 @@ finding method n v =
     (cond (eqb n 4) (found (p .good) (not (eqb (p .len) 0)) 0 0)
     (cond (eqb n 5) (found (isCallId v) false 0 0)
     (cond (eqb n 6) (found (isCSeq method v) false 0 0)
-    (cond (eqb n 8) (found (not (eqb (length .size) 0)) false 0 (length .value))
+    (cond (eqb n 8) (found (not (eqb (cut .size) 0)) false 0 (cut .value))
     (cond (eqb n 14) (found (tags .good) false (tags .first) (tags .count))
     (cond (eqb n 15) (found (not (eqb (number .len) 0)) false (number .start) (number .len))
     (cond (eqb n 16) (found (privacy .good) (not (eqb (privacy .first) 0)) 0 0)

@@ -19,13 +19,13 @@ pub struct Refusal {
 }
 
 // The column of a method, the initial one for an INVITE.
-pub enum ColumnOf {
+pub(crate) enum ColumnOf {
     Is(sip::Column),
     Unknown,
 }
 
 // Which mandatory fields are missing: how many, and the lowest number (0: none is).
-pub struct Lack {
+pub(crate) struct Lack {
     pub count: u64,
     pub lowest: u64,
 }
@@ -34,7 +34,7 @@ pub struct Lack {
 // Max-Forwards: len is what it says. To: flag: it has a tag. Privacy: flag: it withholds the caller.
 // From: where its tag stands. Content-Length: len is what it says. Require: start is the place of the first tag that we lack (0: none),
 // len the number of tags. P-Asserted-Identity: where its number stands.
-pub struct Finding {
+pub(crate) struct Finding {
     pub good: bool,
     pub flag: bool,
     pub start: usize,
@@ -44,7 +44,7 @@ pub struct Finding {
 // What the kept fields say so far: the set of numbers seen; the first that came again, the first malformed one; what the first
 // Max-Forwards, To, Privacy, Content-Length, From and P-Asserted-Identity say; the required tags counted, and the place of the first
 // that we lack.
-pub struct Tally {
+pub(crate) struct Tally {
     pub seen: u32,
     pub again: usize,
     pub malformed: usize,

@@ -14,12 +14,12 @@ ghost use Prim.Native.Nat.{_+_, _-_, _≤_};
 ghost use lib.ListN.{length, take, drop};
 ghost use Rattle.octets.specs.Classes.{text};
 ghost use Rattle.octets.specs.Scans.{same};
-ghost use Rattle.sip.specs.Refusals.{firstOf};
+ghost use Rattle.sip.specs.Refusals.{isInitial, firstOf};
 ghost use Rattle.values.specs.Answers.{requestUri};
 ghost use Rattle.judgement.specs.Sets.{has, keptSet};
 ghost use Rattle.judgement.specs.Entries.{entriesFrom};
 ghost use Rattle.judgement.specs.Tallies.{noTally, tallied};
-ghost use Rattle.judgement.specs.Judged.{bodyLength, tooLong, hopless, initial, columnTagged, early, late, decided, refusalOf, silenced, refusedFor, judgedBy, judgedLines};
+ghost use Rattle.judgement.specs.Judged.{bodyLength, tooLong, hopless, columnTagged, early, late, decided, refusalOf, silenced, refusedFor, judgedBy, judgedLines};
 
 pub(crate) fn refusal(reason: u64, reply: u64, detail: usize, missing: u64) -> Refusal
     ensures { λ r. ⌜ r ≡ record { reason = reason; reply = reply; detail = detail; missing = missing } ⌝ }
@@ -130,7 +130,7 @@ fn tagged_column(c: Column, tagged: bool) -> Column
 }
 
 fn is_initial(c: Column) -> bool
-    ensures { λ r. ⌜ r ≡ initial c ⌝ }
+    ensures { λ r. ⌜ r ≡ isInitial c ⌝ }
 {
     match c {
         Column::Invite => true,
