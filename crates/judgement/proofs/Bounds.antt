@@ -19,7 +19,7 @@ use Rattle.sip.specs.Values.{isEmpty, isNumber, address, noParam, sign, paramVa
 use Rattle.sip.specs.Values.{withToken, tokens, listOr, firstPlace, isLacking}
 use Rattle.sip.proofs.Tests.{never, and-right}
 use Rattle.values.specs.declared.ListAt.{ListAt}
-use Rattle.values.specs.Answers.{wholeNumber, requireAt}
+use Rattle.values.specs.Answers.{wholeNumber, privacyAt, requireAt}
 use Rattle.judgement.specs.declared.Finding.{Finding}
 use Rattle.judgement.specs.declared.Tally.{Tally}
 use Rattle.judgement.specs.Tallies.{noted}
@@ -88,6 +88,10 @@ module _ (v : List ℕ) {r : ListAt} (e : r ≡ requireAt v) where
   pub place-bound : r .first ≤ length v
   unfolding requireAt
   place-bound = rw e (omega (arith, count-le 44 0 v, place-le isLacking 0 (listOr (tokens 44 0 v))))
+
+pub id-bound : (v : List ℕ) {r : ListAt} → r ≡ privacyAt v → r .first ≤ length v
+unfolding privacyAt
+id-bound v e = rw e (omega (arith, count-le 59 0 v, place-le (sameText (text "id")) 0 (listOr (tokens 59 0 v))))
 
 -- ---- the tag of a party stands in its value
 

@@ -1,10 +1,11 @@
 -- Judging a message that was read promises what document 01 says of it: by whether a reason applies, and by the column of its method.
 use mathlib.Core.Path.{_≡_, refl, sym, ap, _∙_}
-use mathlib.Core.Bool.{Bool, true, false, cond}
+use mathlib.Core.Bool.{Bool, true, false, not, cond}
 use mathlib.Core.List.{List, [], _∷_}
 use mathlib.Core.Option.{Option, none, some}
 use Prim.Native.Nat.{ℕ, _+_, _-_, _≤_}
 use native.Mathlib.Omega.{arith}
+use lib.Dec.{eqb}
 use lib.ListN.{length, take, drop, length-drop}
 use Rattle.octets.specs.Classes.{text}
 use Rattle.octets.specs.Scans.{same}
@@ -108,7 +109,7 @@ module _ {m slots : List ℕ} {x : Message} (r : Reads m slots x) where
     es = entriesFrom (keptSet c) m slots (x .count) 0
 
     abbrev column : Column
-    column = columnTagged c (all (r .line) es left .tagged)
+    column = columnTagged c (not (eqb (all (r .line) es left .tagged) 0))
 
     kept-is : keptOf (r .line) (r .header .fields) ≡ es
     kept-is = rw e (sym (r .slots-hold c))

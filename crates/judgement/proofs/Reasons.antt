@@ -153,7 +153,7 @@ module _ (l : Start) (es : List Entry) (rest : List ℕ) where
     reason11-is formed = rw (too-long formed)
 
     abbrev column : Column
-    column = columnTagged c (all .tagged)
+    column = columnTagged c (not (eqb (all .tagged) 0))
 
     alike : Alike (decided c all (requestUri (l .uri)) (length rest)) (reasons column l es rest)
     unfolding decided early late reasons reason7 reason8 requestUri

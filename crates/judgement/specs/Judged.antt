@@ -73,7 +73,7 @@ late c t u body =
     ∷ []
 
 unfoldable pub decided : Column → Tally → RequestUri → ℕ → List (Option Answer)
-decided c t u rest = early t u rest ++ late (columnTagged c (t .tagged)) t u (bodyLength t rest)
+decided c t u rest = early t u rest ++ late (columnTagged c (not (eqb (t .tagged) 0))) t u (bodyLength t rest)
 
 -- ---- the answer
 
@@ -115,7 +115,7 @@ judgedBy h c method u t rest =
       kept = keptSet c;
       hops = t .hops;
       body = bodyLength t rest;
-      withheld = t .withheld;
+      withheld = not (eqb (t .withheld) 0);
       tag = t .tag;
       number = t .number;
     }

@@ -2,7 +2,7 @@
 use super::Finding;
 use super::sets;
 ghost use mathlib.Core.Path.{_≡_};
-ghost use mathlib.Core.Bool.{false, _||_};
+ghost use mathlib.Core.Bool.{_||_};
 ghost use mathlib.Core.List.{[]};
 ghost use Prim.Native.Nat.{_+_, _≤_};
 ghost use lib.Dec.{eqb};
@@ -11,11 +11,10 @@ ghost use Rattle.judgement.specs.Tallies.{finding, found};
 
 // A value of which only this is asked.
 fn plain(good: bool) -> Finding
-    ensures { λ r. ⌜ (r ≡ found good false 0 0) × (r .start ≡ 0) × (r .len ≡ 0) ⌝ }
+    ensures { λ r. ⌜ (r ≡ found good 0 0) × (r .start ≡ 0) × (r .len ≡ 0) ⌝ }
 {
     Finding {
         good,
-        flag: false,
         start: 0,
         len: 0,
     }
@@ -27,7 +26,6 @@ fn max_forwards(v: &[u8]) -> Finding
     let hops = values::whole_number(v, 3, 255);
     Finding {
         good: hops.size != 0,
-        flag: false,
         start: 0,
         len: hops.value as usize,
     }
@@ -39,21 +37,19 @@ fn from(v: &[u8]) -> Finding
     let p = values::party(v);
     Finding {
         good: p.good && p.len != 0,
-        flag: false,
         start: p.tag,
         len: p.len,
     }
 }
 
 fn to(v: &[u8]) -> Finding
-    ensures { λ r. ⌜ (r ≡ finding [] 4 (now (v .entry))) × (r .start ≡ 0) × (r .len ≡ 0) ⌝ }
+    ensures { λ r. ⌜ (r ≡ finding [] 4 (now (v .entry))) × (r .start ≡ 0) × (r .len ≤ length (now (v .entry))) ⌝ }
 {
     let p = values::party(v);
     Finding {
         good: p.good,
-        flag: p.len != 0,
         start: 0,
-        len: 0,
+        len: p.len,
     }
 }
 
@@ -63,7 +59,6 @@ fn content_length(v: &[u8]) -> Finding
     let length = values::whole_number(v, 5, 99999);
     Finding {
         good: length.size != 0,
-        flag: false,
         start: 0,
         len: length.value as usize,
     }
@@ -75,7 +70,6 @@ fn require(v: &[u8]) -> Finding
     let tags = values::require(v);
     Finding {
         good: tags.good,
-        flag: false,
         start: tags.first,
         len: tags.count,
     }
@@ -87,20 +81,18 @@ fn identity(v: &[u8]) -> Finding
     let number = values::identity(v);
     Finding {
         good: number.len != 0,
-        flag: false,
         start: number.start,
         len: number.len,
     }
 }
 
 fn privacy(v: &[u8]) -> Finding
-    ensures { λ r. ⌜ (r ≡ finding [] 16 (now (v .entry))) × (r .start ≡ 0) × (r .len ≡ 0) ⌝ }
+    ensures { λ r. ⌜ (r ≡ finding [] 16 (now (v .entry))) × (r .start ≤ length (now (v .entry))) × (r .len ≡ 0) ⌝ }
 {
     let tokens = values::privacy(v);
     Finding {
         good: tokens.good,
-        flag: tokens.first != 0,
-        start: 0,
+        start: tokens.first,
         len: 0,
     }
 }

@@ -195,7 +195,7 @@ fn decide(c: Column, t: Tally, u: RequestUri, rest: usize) -> Refusal
     if first.reason != 0 {
         return first;
     }
-    late(tagged_column(c, t.tagged), t, u, body_of(t, rest))
+    late(tagged_column(c, t.tagged != 0), t, u, body_of(t, rest))
 }
 
 // What the Request-URI of the start line is.
@@ -233,7 +233,7 @@ fn judge_column(message: &[u8], m: Message, method: &[u8], c: Column, slots: &[u
         kept,
         hops: t.hops,
         body: body_of(t, rest),
-        withheld: t.withheld,
+        withheld: t.withheld != 0,
         tag,
         number,
     }

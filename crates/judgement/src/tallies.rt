@@ -101,7 +101,7 @@ fn say(t: Tally, n: usize, f: Finding) -> Tally
         return r;
     }
     if n == 4 {
-        r.tagged = f.flag;
+        r.tagged = f.len;
         return r;
     }
     if n == 8 {
@@ -117,7 +117,7 @@ fn say(t: Tally, n: usize, f: Finding) -> Tally
         return r;
     }
     if n == 16 {
-        r.withheld = f.flag;
+        r.withheld = f.start;
         return r;
     }
     r
@@ -201,8 +201,8 @@ pub(crate) fn tally(
         again: 0,
         malformed: 0,
         hops: 0,
-        tagged: false,
-        withheld: false,
+        tagged: 0,
+        withheld: 0,
         length: 0,
         tags: 0,
         lacking: 0,

@@ -25,21 +25,21 @@ module _ (method : List ℕ) (n : ℕ) (v : List ℕ) {r : Finding} where
   unfolding finding
   read k z q e = e ∙ rw (q, z)
 
-  call : {b : Bool} → n ≡ 5 → b ≡ isCallId v → r ≡ found b false 0 0 → r ≡ finding method n v
+  call : {b : Bool} → n ≡ 5 → b ≡ isCallId v → r ≡ found b 0 0 → r ≡ finding method n v
   unfolding finding
   call q d e = e ∙ rw (q, d)
 
-  sequence : {b : Bool} → n ≡ 6 → b ≡ isCSeq method v → r ≡ found b false 0 0 → r ≡ finding method n v
+  sequence : {b : Bool} → n ≡ 6 → b ≡ isCSeq method v → r ≡ found b 0 0 → r ≡ finding method n v
   unfolding finding
   sequence q d e = e ∙ rw (q, d)
 
   module _ {t : Bool} (h : t ≡ (eqb n 1 || (eqb n 7 || (eqb n 9 || (eqb n 10 || (eqb n 11 || eqb n 18)))))) where
-    filled : t ≡ true → r ≡ found (not (eqb (length v) 0)) false 0 0 → r ≡ finding method n v
+    filled : t ≡ true → r ≡ found (not (eqb (length v) 0)) 0 0 → r ≡ finding method n v
     unfolding finding
     filled q e = e ∙ rw (← h, q, no-bytes v)
 
     other : t ≡ false → (n ≡ 2 → ⊥) → (n ≡ 3 → ⊥) → (n ≡ 4 → ⊥) → (n ≡ 5 → ⊥) → (n ≡ 6 → ⊥) → (n ≡ 8 → ⊥) → (n ≡ 14 → ⊥)
-        → (n ≡ 15 → ⊥) → (n ≡ 16 → ⊥) → r ≡ found true false 0 0 → r ≡ finding method n v
+        → (n ≡ 15 → ⊥) → (n ≡ 16 → ⊥) → r ≡ found true 0 0 → r ≡ finding method n v
     unfolding finding
     other q n2 n3 n4 n5 n6 n8 n14 n15 n16 e =
         e
