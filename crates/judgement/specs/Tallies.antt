@@ -16,6 +16,10 @@ use Rattle.judgement.specs.Sets.{has}
 abbrev pub found : Bool → ℕ → ℕ → Finding
 found good start len = record { good = good; start = start; len = len }
 
+-- Via, Contact, Content-Type, Route, Reason and Record-Route: any value that is not empty
+abbrev pub onlyFilled : ℕ → Bool
+onlyFilled n = eqb n 1 || (eqb n 7 || (eqb n 9 || (eqb n 10 || (eqb n 11 || eqb n 18))))
+
 -- what is found in the value v of a field of number n
 unfoldable pub finding : List ℕ → ℕ → List ℕ → Finding
 finding method n v =
@@ -25,7 +29,7 @@ finding method n v =
     let privacy = privacyAt v in
     let tags = requireAt v in
     let number = identityAt v in
-    cond (eqb n 1 || (eqb n 7 || (eqb n 9 || (eqb n 10 || (eqb n 11 || eqb n 18))))) (found (not (isEmpty v)) 0 0)
+    cond (onlyFilled n) (found (not (isEmpty v)) 0 0)
     (cond (eqb n 2) (found (not (eqb (hops .size) 0)) 0 (hops .value))
     (cond (eqb n 3) (found (p .good && not (eqb (p .len) 0)) (p .tag) (p .len))
     (cond (eqb n 4) (found (p .good) 0 (p .len))

@@ -10,7 +10,7 @@ use Rattle.judgement.proofs.tallies.tally.Tie as tie
 
 abbrev Inv-loop : tie.InvT-loop
 Inv-loop message method kept slots count t₀ i₀ t i =
-    (i ≤ count) × (t .tags ≤ 108191 * i) × (whole method message kept slots count ≡ tallied method t (entriesFrom kept message slots (count - i) i))
+    (i ≤ count) × (t .tags ≤ 8192 * i) × (whole method message kept slots count ≡ tallied method t (entriesFrom kept message slots (count - i) i))
 
 abbrev μ-loop : tie.MeasureT-loop
 μ-loop message method kept slots count t₀ i₀ t i = count - i
