@@ -16,14 +16,13 @@ use Rattle.sip.specs.Profile.{columnOf}
 use Rattle.sip.specs.Refusals.{Answer, read, lines, kept, refusal, replied, firstOf, Entry, keptOf, toTagged, firstRepeat, bodyOf, exceeds, reasons, refused, accepted, judged, judgement}
 use Rattle.sip.proofs.Tests.{never}
 use Rattle.lines.specs.declared.Message.{Message}
-use Rattle.lines.specs.Index.{slotAt}
 use Rattle.values.specs.Answers.{requestUri}
 use Rattle.judgement.specs.declared.ColumnOf.{ColumnOf}
 use Rattle.judgement.specs.declared.ColumnOf.the-variants.{Is, Unknown}
 use Rattle.judgement.specs.declared.Refusal.{Refusal}
 use Rattle.judgement.specs.declared.Judged.{Judged}
 use Rattle.judgement.specs.Sets.{keptSet, columnFound, columnAt}
-use Rattle.judgement.specs.Entries.{entriesFrom}
+use Rattle.judgement.specs.Entries.{Within, entriesFrom}
 use Rattle.judgement.specs.Tallies.{noTally, tallied}
 use Rattle.judgement.specs.Judged.{columnTagged, decided, refusalOf, silenced, judgedBy, judgedAs, judgedLines}
 use Rattle.judgement.specs.Judges.{Told, nothing, also, Passes, Judges}
@@ -83,7 +82,7 @@ pub record Reads (m slots : List ℕ) (x : Message) : Type 0 where
   pub uri-is : take (x .uri) (drop (x .method + 1) m) ≡ line .uri
   pub rest-within : x .rest ≤ length m
   pub rest-is : drop (x .rest) m ≡ header .rest
-  pub slots-within : (i : ℕ) → slotAt slots i .start + slotAt slots i .len ≤ length m
+  pub slots-within : Within m slots
   pub slots-hold : (c : Column) → entriesFrom (keptSet c) m slots (x .count) 0 ≡ kept (some c) (header .fields)
 
 module _ {m slots : List ℕ} {x : Message} (r : Reads m slots x) where

@@ -22,7 +22,7 @@ use Rattle.emit.proofs.Laws.{wrote-room}
 use Rattle.judgement.specs.declared.Finding.{Finding}
 use Rattle.judgement.specs.declared.Tally.{Tally}
 use Rattle.judgement.specs.Sets.{has}
-use Rattle.judgement.specs.Entries.{valueAt, entryAt, entriesFrom}
+use Rattle.judgement.specs.Entries.{Within, valueAt, entryAt, entriesFrom}
 use Rattle.judgement.specs.Tallies.{finding, noted, noTally, tallied}
 use Rattle.judgement.specs.Judged.{takenUp}
 use Rattle.judgement.proofs.Bounds.{tags-grow}
@@ -114,6 +114,9 @@ module _ (method m : List ℕ) (short : length m ≤ 8192) (t : Tally) (s : Slot
   folded-tags d h = rw (h, d) (omega (arith, value-le, folded-le v, tags-grow method t (s .number) (folded 0 v)))
 
 -- ---- all slots
+
+pub fits : (m ns : List ℕ) (i : ℕ) {s : Slot} → s ≡ slotAt ns i → Within m ns → s .start + s .len ≤ length m
+fits m ns i e h = rw e (h i)
 
 module _ (method m : List ℕ) (kept : ℕ) (ns : List ℕ) where
   one-more : (t : Tally) (k i : ℕ)

@@ -17,7 +17,7 @@ ghost use Rattle.octets.specs.Scans.{same};
 ghost use Rattle.sip.specs.Refusals.{isInitial, firstOf};
 ghost use Rattle.values.specs.Answers.{requestUri};
 ghost use Rattle.judgement.specs.Sets.{has, keptSet};
-ghost use Rattle.judgement.specs.Entries.{entriesFrom};
+ghost use Rattle.judgement.specs.Entries.{Within, entriesFrom};
 ghost use Rattle.judgement.specs.Tallies.{noTally, tallied};
 ghost use Rattle.judgement.specs.Judged.{bodyLength, tooLong, hopless, columnTagged, early, late, decided, refusalOf, silenced, refusedFor, judgedBy, judgedLines};
 
@@ -209,7 +209,7 @@ fn request_uri(message: &[u8], m: Message) -> RequestUri
 
 // A request of that column.
 fn judge_column(message: &[u8], m: Message, method: &[u8], c: Column, slots: &[u16; 384]) -> Judged
-    requires { ⌜ (length (now message) ≤ 8192) × (m .count ≤ 96) × (m .method ≤ 8192) × (m .rest ≤ length (now message)) ⌝ }
+    requires { ⌜ (length (now message) ≤ 8192) × (m .count ≤ 96) × (m .method ≤ 8192) × (m .rest ≤ length (now message)) × Within (now message) (now slots) ⌝ }
     ensures { λ r. ⌜
         r
         ≡ judgedBy m c (now (method .entry)) (requestUri (take (m .uri) (drop (m .method + 1) (now (message .entry)))))
@@ -241,7 +241,7 @@ fn judge_column(message: &[u8], m: Message, method: &[u8], c: Column, slots: &[u
 
 // Reasons 6 to 15 of a message that was read.
 pub(crate) fn judge_read(message: &[u8], m: Message, slots: &[u16; 384]) -> Judged
-    requires { ⌜ (length (now message) ≤ 8192) × (m .count ≤ 96) × (m .method ≤ 8192) × (m .rest ≤ length (now message)) ⌝ }
+    requires { ⌜ (length (now message) ≤ 8192) × (m .count ≤ 96) × (m .method ≤ 8192) × (m .rest ≤ length (now message)) × Within (now message) (now slots) ⌝ }
     ensures { λ r. ⌜ r ≡ judgedLines (now (message .entry)) (now (slots .entry)) m ⌝ }
 {
     let method = octets::first(message, m.method);

@@ -9,11 +9,11 @@ ghost use mathlib.Core.Path.{_≡_};
 ghost use mathlib.Core.Bool.{false, cond, _&&_};
 ghost use Prim.Native.Nat.{_+_, _≤_, _<_, _^_};
 ghost use lib.Dec.{eqb};
-ghost use lib.ListN.{length};
+ghost use lib.ListN.{length, take, drop};
 ghost use Rattle.sip.specs.Lines.{folded};
 ghost use Rattle.sip.specs.Profile.{once};
 ghost use Rattle.judgement.specs.Sets.{has};
-ghost use Rattle.judgement.specs.Entries.{entriesFrom};
+ghost use Rattle.judgement.specs.Entries.{Within, entriesFrom};
 ghost use Rattle.judgement.specs.Tallies.{finding, orElse, noted, counted, required, said, noTally, tallied};
 ghost use Rattle.judgement.specs.Judged.{takenUp};
 
@@ -232,16 +232,26 @@ fn finding_folded(method: &[u8], n: usize, v: &[u8]) -> Finding
     finding_long(method, n, v)
 }
 
+// The value that a slot speaks of, where it stands.
+fn value_of(message: &[u8], s: Slot) -> &[u8]
+    requires { ⌜ s .start + s .len ≤ length (now message) ⌝ }
+    ensures { λ r. ⌜ (now r ≡ take (s .len) (drop (s .start) (now (message .entry)))) × (length (now r) ≤ length (now (message .entry))) ⌝ }
+{
+    let start = s.start;
+    let end = start + s.len;
+    &message[start..end]
+}
+
 // Takes up one field, where it is kept. The bound leaves room to add up the tags of all fields.
 fn take_up(message: &[u8], method: &[u8], kept: u32, t: Tally, s: Slot) -> Tally
-    requires { ⌜ (length (now message) ≤ 8192) × (t .tags < 2 ^ 31) ⌝ }
+    requires { ⌜ (length (now message) ≤ 8192) × (s .start + s .len ≤ length (now message)) × (t .tags < 2 ^ 31) ⌝ }
     ensures { λ r. ⌜ (r ≡ takenUp (now (method .entry)) kept (now (message .entry)) t s) × (r .tags ≤ t .tags + 8192) ⌝ }
 {
     let n = s.number;
     if !sets::in_set(kept, n) {
         return t;
     }
-    let v = octets::part(message, s.start, s.len);
+    let v = value_of(message, s);
     if s.folded {
         return note(t, n, finding_folded(method, n, v));
     }
@@ -256,7 +266,7 @@ pub(crate) fn tally(
     slots: &[u16; 384],
     count: usize,
 ) -> Tally
-    requires { ⌜ (length (now message) ≤ 8192) × (count ≤ 96) ⌝ }
+    requires { ⌜ (length (now message) ≤ 8192) × (count ≤ 96) × Within (now message) (now slots) ⌝ }
     ensures { λ r. ⌜ r ≡ tallied (now (method .entry)) noTally (entriesFrom kept (now (message .entry)) (now (slots .entry)) count 0) ⌝ }
 {
     let mut t = Tally {

@@ -1,7 +1,7 @@
 -- Field by field; a number that is not there yet does not come again.
 use borrow.Author.Needs.{needs}
 use mathlib.Core.Path.{_≡_}
-use mathlib.Core.Bool.{Bool, false, cond, _&&_, and-false}
+use mathlib.Core.Bool.{Bool, false, cond, and-false}
 use Prim.Native.Nat.{ℕ, _^_}
 use lib.Bits.{bitOr}
 use Rattle.sip.specs.Profile.{once}

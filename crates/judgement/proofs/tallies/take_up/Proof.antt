@@ -10,8 +10,8 @@ in-set-requires c κs = search needs
 returns : tie.Need-returns
 returns c = search (skipped, needs)
 
-part-requires : tie.Need-part-requires
-part-requires c κs = search needs
+value-of-requires : tie.Need-value-of-requires
+value-of-requires c κs = search needs
 
 finding-folded-requires : tie.Need-finding-folded-requires
 finding-folded-requires c κs = search needs
@@ -34,7 +34,7 @@ take-up-spec =
     (tie.spec
     in-set-requires
     returns
-    part-requires
+    value-of-requires
     finding-folded-requires
     note-requires
     returns-2

@@ -4,7 +4,7 @@ use mathlib.Core.Path.{_≡_}
 use Prim.Native.Nat.{_*_, _-_, _≤_}
 use Rattle.judgement.specs.Entries.{entriesFrom}
 use Rattle.judgement.specs.Tallies.{tallied}
-use Rattle.judgement.proofs.Kept.{whole, begun, next-slot, ended}
+use Rattle.judgement.proofs.Kept.{fits, whole, begun, next-slot, ended}
 use Rattle.judgement.proofs.tallies.tally.Statement.{statement}
 use Rattle.judgement.proofs.tallies.tally.Tie as tie
 
@@ -22,7 +22,7 @@ slot-at-requires : tie.Need-slot-at-requires Inv-loop μ-loop
 slot-at-requires c κs = search needs
 
 take-up-requires : tie.Need-take-up-requires Inv-loop μ-loop
-take-up-requires c κs = search needs
+take-up-requires c κs = search (fits, needs)
 
 add-i : tie.Need-add-i Inv-loop μ-loop
 add-i c = search needs
