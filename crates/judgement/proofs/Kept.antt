@@ -68,16 +68,16 @@ folded-empty (b ∷ s) = go (isGap b) refl
         rw (folded-run (b ∷ s), r) (joined-some b (take (run isGap s) s) (folded 0 (drop (run isGap s) s)))
     go false q = rw (folded-byte b s q)
 
--- no reader is asked of a number that is not in this set
-module _ (method : List ℕ) (n : ℕ) (v : List ℕ) {b : Bool} (e : b ≡ has 115068 n) (q : not b ≡ true) where
-  not-read : (k : ℕ) → has 115068 k ≡ true → n ≡ k → ⊥
-  not-read k h z = let x : has 115068 n ≡ false = sym e ∙ not-true b q in never (cc)
+-- no reader is asked of a number that is not in a set of those that are read
+module _ (method : List ℕ) (n : ℕ) (v : List ℕ) (set : ℕ) {b : Bool} (e : b ≡ has set n) (q : not b ≡ true) where
+  not-read : (k : ℕ) → has set k ≡ true → n ≡ k → ⊥
+  not-read k h z = let x : has set n ≡ false = sym e ∙ not-true b q in never (cc)
 
-  pub unread-found : {f : Finding} → f ≡ filled n v → f ≡ finding method n (folded 0 v)
-  unfolding has
-  unread-found d =
-      other method n (folded 0 v) (not-read 2 refl) (not-read 3 refl) (not-read 4 refl) (not-read 5 refl) (not-read 6 refl) (not-read 8 refl)
-      (not-read 14 refl) (not-read 15 refl) (not-read 16 refl) (d ∙ rw (folded-empty v))
+  pub unread-found : has set 2 ≡ true → has set 3 ≡ true → has set 4 ≡ true → has set 5 ≡ true → has set 6 ≡ true → has set 8 ≡ true
+      → has set 14 ≡ true → has set 15 ≡ true → has set 16 ≡ true → {f : Finding} → f ≡ filled n v → f ≡ finding method n (folded 0 v)
+  unread-found h2 h3 h4 h5 h6 h8 h14 h15 h16 d =
+      other method n (folded 0 v) (not-read 2 h2) (not-read 3 h3) (not-read 4 h4) (not-read 5 h5) (not-read 6 h6) (not-read 8 h8) (not-read 14 h14)
+      (not-read 15 h15) (not-read 16 h16) (d ∙ rw (folded-empty v))
 
 -- ---- a slot is taken up
 

@@ -1,5 +1,6 @@
 -- One law for each answer: a value that is not read, and one that is folded.
 use borrow.Author.Needs.{needs}
+use Rattle.judgement.specs.Sets.{has}
 use Rattle.judgement.proofs.Kept.{unread-found}
 use Rattle.judgement.proofs.tallies.finding_folded.Statement.{statement}
 use Rattle.judgement.proofs.tallies.finding_folded.Tie as tie
@@ -11,6 +12,7 @@ other-requires : tie.Need-other-requires
 other-requires c κs = search needs
 
 returns : tie.Need-returns
+unfolding has
 returns c = search (unread-found, needs)
 
 finding-short-requires : tie.Need-finding-short-requires
