@@ -149,6 +149,6 @@ module _ (method m : List ℕ) (kept : ℕ) (ns : List ℕ) where
           = one-more t (count - j) i ∙ rw (eu, es) (ap (λ (k : ℕ). tallied method (takenUp method kept m t (slotAt ns i)) (entriesFrom kept m ns (count - j) k)) (sym y)) in
           h ∙ ap (λ (k : ℕ). tallied method t (entriesFrom kept m ns k i)) z ∙ x
 
-      pub ended : count ≤ i → t ≡ whole
+      pub ended : count ≤ i → {n : ℕ} → count ≡ n → t ≡ tallied method noTally (entriesFrom kept m ns n 0)
       unfolding entriesFrom tallied
-      ended l = let z : count - i ≡ 0 = omega arith in sym (rw z at h)
+      ended l e = let z : count - i ≡ 0 = omega arith in rw (← e) (sym (rw z at h))

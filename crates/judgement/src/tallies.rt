@@ -258,6 +258,17 @@ fn take_up(message: &[u8], method: &[u8], kept: u32, t: Tally, s: Slot) -> Tally
     take_plain(method, t, n, v)
 }
 
+// The count. That it is at most 96 is said for the compiler, which then drops the test for a slot past the 96 in each turn.
+fn bounded(count: usize) -> usize
+    requires { ⌜ count ≤ 96 ⌝ }
+    ensures { λ r. ⌜ r ≡ count ⌝ }
+{
+    if 96 < count {
+        return 96;
+    }
+    count
+}
+
 // What the kept fields say.
 pub(crate) fn tally(
     message: &[u8],
@@ -282,8 +293,9 @@ pub(crate) fn tally(
         tag: Span { start: 0, len: 0 },
         number: Span { start: 0, len: 0 },
     };
+    let end = bounded(count);
     let mut i = 0;
-    while i < count {
+    while i < end {
         t = take_up(message, method, kept, t, lines::slot_at(slots, i));
         i += 1;
     }
