@@ -127,7 +127,7 @@ module _ (method : List ℕ) (es : List Entry) where
       go none = refl
       go (some v) = id-found v
 
-  pub total-tag : (v : List ℕ) → valueOf 3 es ≡ some v → tallied method noTally es .tag ≡ record { start = party v .tag; len = party v .len }
+  total-tag : (v : List ℕ) → valueOf 3 es ≡ some v → tallied method noTally es .tag ≡ record { start = party v .tag; len = party v .len }
   unfolding noted finding
   total-tag v q =
       first method 3 (λ (t : Tally). t .tag) (λ (f : Finding). record { start = f .start; len = f .len }) (λ t n f. refl) es ∙ rw q

@@ -86,7 +86,7 @@ pub kept-has : (c : Column) (n : ℕ) → has (keptSet c) n ≡ not (ignored (so
 unfolding keptSet ignored
 kept-has c n = has-listed (λ (k : ℕ). not (ignored (some c) k)) (λ k e. ap (λ (m : Mark). not (isIgnored m)) (mark-none c k e)) n
 
-pub mandatory-has : (c : Column) (empty : Bool) (n : ℕ) → has (mandatorySet c empty) n ≡ mandatory c empty n
+mandatory-has : (c : Column) (empty : Bool) (n : ℕ) → has (mandatorySet c empty) n ≡ mandatory c empty n
 unfolding mandatorySet mandatory
 mandatory-has c empty n = has-listed (mandatory c empty) (λ k e. ap (isMandatory empty) (mark-none c k e)) n
 

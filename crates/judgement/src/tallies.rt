@@ -138,7 +138,7 @@ fn note(t: Tally, n: usize, f: Finding) -> Tally
     say(there, n, f)
 }
 
-// What is noted of the first field of a number: it cannot come again.
+// What is noted of the first field of a number, which repeats none.
 fn count_first(t: Tally, n: usize, good: bool) -> Tally
     requires { ⌜ (n < 32) × (has (t .seen) n ≡ false) ⌝ }
     ensures { λ r. ⌜ r ≡ counted t n good ⌝ }
