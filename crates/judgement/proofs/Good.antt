@@ -50,7 +50,7 @@ identity-size v e q =
     let z : isGlobal [] ≡ true = rw q at g in
     never (cc nothing-global)
 
-identity-good : (v : List ℕ) → not (eqb (identityAt v .len) 0) ≡ isIdentity v
+pub identity-good : (v : List ℕ) → not (eqb (identityAt v .len) 0) ≡ isIdentity v
 unfolding identityAt
 identity-good v = go (isIdentity v) refl
   where

@@ -1,10 +1,11 @@
 -- Judging a message that was read promises what document 01 says of it: by whether a reason applies, and by the column of its method.
 use mathlib.Core.Path.{_≡_, refl, sym, ap, _∙_}
-use mathlib.Core.Bool.{Bool, true, false, cond}
+use mathlib.Core.Bool.{Bool, true, false, not, cond}
 use mathlib.Core.List.{List, [], _∷_}
 use mathlib.Core.Option.{Option, none, some}
 use Prim.Native.Nat.{ℕ, _+_, _-_, _≤_}
 use native.Mathlib.Omega.{arith}
+use lib.Dec.{eqb}
 use lib.ListN.{length, take, drop, length-drop}
 use Rattle.octets.specs.Classes.{text}
 use Rattle.octets.specs.Scans.{same}
@@ -21,13 +22,13 @@ use Rattle.judgement.specs.declared.ColumnOf.the-variants.{Is, Unknown}
 use Rattle.judgement.specs.declared.Refusal.{Refusal}
 use Rattle.judgement.specs.declared.Judged.{Judged}
 use Rattle.judgement.specs.Sets.{keptSet, columnFound, columnAt}
-use Rattle.judgement.specs.Entries.{entriesFrom}
+use Rattle.judgement.specs.Entries.{Within, entriesFrom}
 use Rattle.judgement.specs.Tallies.{noTally, tallied}
 use Rattle.judgement.specs.Judged.{columnTagged, decided, refusalOf, silenced, judgedBy, judgedAs, judgedLines}
 use Rattle.judgement.specs.Judges.{Told, nothing, also, Passes, Judges}
 use Rattle.judgement.proofs.Members.{kept-has}
 use Rattle.judgement.proofs.Each.{Each, Listed, entries-listed, kept-listed, WellFormed}
-use Rattle.judgement.proofs.Firsts.{HopsAre, TagIn, TagWithin, total-tagged, total-withheld, hops-there, tags-there, tags-within}
+use Rattle.judgement.proofs.Firsts.{HopsAre, TagIn, TagWithin, total-tagged, total-withheld, hops-there, tags-there, tags-within, number-is, number-there, number-none}
 use Rattle.judgement.proofs.Decisions.{Numbered, decided-numbered}
 use Rattle.judgement.proofs.Reasons.{all, body-there, body-is, first-is, none-repeats, all-formed, all-there, column-is}
 
@@ -81,6 +82,7 @@ pub record Reads (m slots : List ℕ) (x : Message) : Type 0 where
   pub uri-is : take (x .uri) (drop (x .method + 1) m) ≡ line .uri
   pub rest-within : x .rest ≤ length m
   pub rest-is : drop (x .rest) m ≡ header .rest
+  pub slots-within : Within m slots
   pub slots-hold : (c : Column) → entriesFrom (keptSet c) m slots (x .count) 0 ≡ kept (some c) (header .fields)
 
 module _ {m slots : List ℕ} {x : Message} (r : Reads m slots x) where
@@ -106,7 +108,7 @@ module _ {m slots : List ℕ} {x : Message} (r : Reads m slots x) where
     es = entriesFrom (keptSet c) m slots (x .count) 0
 
     abbrev column : Column
-    column = columnTagged c (all (r .line) es left .tagged)
+    column = columnTagged c (not (eqb (all (r .line) es left .tagged) 0))
 
     kept-is : keptOf (r .line) (r .header .fields) ≡ es
     kept-is = rw e (sym (r .slots-hold c))
@@ -164,6 +166,7 @@ module _ {m slots : List ℕ} {x : Message} (r : Reads m slots x) where
             is-read = r .is-read;
             short = r .short;
             few = r .few;
+            within = r .slots-within;
             method-long = r .method-long;
             uri-long = r .uri-long;
             line-within = r .line-within;
@@ -177,6 +180,9 @@ module _ {m slots : List ℕ} {x : Message} (r : Reads m slots x) where
             told =
                 told-each _ _ es (hops-there (r .line .method) es formed repeats) (tags-there (r .line .method) es repeats)
                 (tags-within (r .line .method) es repeats);
+            number-is = number-is (r .line .method) es;
+            number-there = number-there (r .line .method) es formed;
+            number-none = number-none (r .line .method) es;
           }
 
     accepts-is : (o : Option Answer) → reason ≡ o → Numbered o → answered .refusal .reason ≡ 0 → Passes m slots answered

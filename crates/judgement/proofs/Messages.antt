@@ -12,8 +12,10 @@ use Rattle.sip.specs.Lines.{Start, start, startSize, Header, header}
 use Rattle.sip.specs.Refusals.{refusal, Lines, unread, read, headerLines, startLines, lines, judgement, refused}
 use Rattle.lines.specs.declared.Message.{Message}
 use Rattle.lines.specs.Index.{indexOf, index}
+use Rattle.lines.proofs.Within.{slots-within}
 use Rattle.judgement.specs.declared.Refusal.{Refusal}
 use Rattle.judgement.specs.declared.Judged.{Judged}
+use Rattle.judgement.specs.Entries.{Within}
 use Rattle.judgement.specs.Judged.{refusedFor, judgedLines, judgedMessage}
 use Rattle.judgement.specs.Judges.{Judges}
 use Rattle.judgement.proofs.Parts.{parts}
@@ -61,6 +63,7 @@ module _ (m : List ℕ) where
         uri-is = p .read-as .uri-part;
         rest-within = omega arith;
         rest-is = p .read-as .rest-part;
+        slots-within = λ i. rw q at (slots-within m i);
         slots-hold = p .entries;
       })
 
@@ -128,3 +131,6 @@ module _ (m : List ℕ) where
 
       pub rest-within : h .rest ≤ length m
       rest-within = rw e (reads head-read .rest-within)
+
+  pub within : {ns : List ℕ} → ns ≡ index m .slots → Within m ns
+  within hs = λ i. rw hs (slots-within m i)

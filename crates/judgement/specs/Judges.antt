@@ -2,18 +2,20 @@
 use mathlib.Core.Path.{_≡_}
 use mathlib.Core.Bool.{false, not}
 use mathlib.Core.List.{List, [], _∷_}
+use mathlib.Core.Option.{none, some}
 use Prim.Native.Nat.{ℕ, _+_, _-_, _≤_}
 use lib.ListN.{length, take, drop}
 use Rattle.octets.specs.Scans.{decimal}
 use Rattle.sip.specs.declared.Span.{Span}
 use Rattle.sip.specs.Lines.{Header}
 use Rattle.sip.specs.Profile.{columnOf, ignored}
-use Rattle.sip.specs.Readings.{part}
+use Rattle.sip.specs.Readings.{noSpan, part}
 use Rattle.sip.specs.Values.{tagOf}
-use Rattle.sip.specs.Refusals.{refusal, read, lines, Entry, keptOf, withheld, Request, refused, accepted, judgement}
+use Rattle.sip.specs.Refusals.{refusal, read, lines, Entry, valueOf, keptOf, withheld, Request, refused, accepted, judgement}
+use Rattle.values.specs.Answers.{identityAt}
 use Rattle.judgement.specs.declared.Judged.{Judged}
 use Rattle.judgement.specs.Sets.{has}
-use Rattle.judgement.specs.Entries.{entriesFrom}
+use Rattle.judgement.specs.Entries.{Within, entriesFrom}
 
 -- this is so of one field: what Max-Forwards says, and where the tag stands in From
 pub record Tells (hops : ℕ) (tag : Span) (e : Entry) : Type 0 where
@@ -26,25 +28,33 @@ pub data Told (hops : ℕ) (tag : Span) : List Entry → Type 0 where
   nothing : Told hops tag []
   also : {e : Entry} {es : List Entry} → Tells hops tag e → Told hops tag es → Told hops tag (e ∷ es)
 
--- no reason up to 15 refuses it, and this is what the writer needs to know of the request
+-- no reason up to 15 refuses it: document 01's judgement accepts this request, and this is what the answer and the slots say of it
 pub record Passes (m slots : List ℕ) (r : Judged) : Type 0 where
   pub request : Request
   pub header : Header
   pub is-accepted : judgement m ≡ accepted request
   pub is-read : lines m ≡ read (request .line) header
+  -- where its parts stand in the message
   pub short : length m ≤ 8192
   pub few : r .count ≤ 96
+  pub within : Within m slots
   pub method-long : r .method ≡ length (request .line .method)
   pub uri-long : r .uri ≡ length (request .line .uri)
   pub line-within : r .method + 1 + r .uri ≤ length m
   pub method-is : take (r .method) m ≡ request .line .method
+  -- its fields are those that the column keeps, and the slots hold them
   pub fields-kept : request .fields ≡ keptOf (request .line) (header .fields)
   pub kept-is : (n : ℕ) → has (r .kept) n ≡ not (ignored (columnOf (request .line .method) false) n)
   pub fields-held : request .fields ≡ entriesFrom (r .kept) m slots (r .count) 0
+  -- its body, and what its fields say
   pub body-is : request .body ≡ take (r .body) (drop (r .rest) m)
   pub body-there : r .body ≤ length m - r .rest
   pub withheld-is : withheld (request .fields) ≡ r .withheld
   pub told : Told (r .hops) (r .tag) (request .fields)
+  -- the number stands there in the canonical value of its P-Asserted-Identity; no part exactly where it has none
+  pub number-is : (v : List ℕ) → valueOf 15 (request .fields) ≡ some v → identityAt v ≡ r .number
+  pub number-there : (v : List ℕ) → valueOf 15 (request .fields) ≡ some v → r .number .len ≡ 0 → ⊥
+  pub number-none : valueOf 15 (request .fields) ≡ none → r .number ≡ noSpan
 
 -- a reason of 0 means that none applies
 pub record Judges (m slots : List ℕ) (r : Judged) : Type 0 where

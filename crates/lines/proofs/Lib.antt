@@ -10,3 +10,4 @@ pub mod Counts
 pub mod Keeps
 pub mod Reached
 pub mod Messages
+pub mod Within

@@ -8,6 +8,7 @@ use borrow.Author.Tests.{eq-eqb, ne-eqb, le-leb, lt-leb}
 use Rattle.sip.specs.Refusals.{Lines, unread, read, lines}
 use Rattle.sip.specs.Readings.{place, spans, count, readingAt, reading}
 use Rattle.sip.specs.declared.Span.{Span}
+use Rattle.sip.proofs.Within.{reading-within}
 use Rattle.lines.specs.Places.{startAt}
 use Rattle.lines.specs.Index.{packed, zeros, padded, Indexed, unreadHead, unreadIndex, index}
 use Rattle.lines.specs.Passes.{settled, firstSlots, spansIn, countedIn}
@@ -109,6 +110,9 @@ module _ (m : List ℕ) (n k : ℕ) where
     pub place-is : c .span ≡ readingAt m n k
     unfolding readingAt
     place-is = rw h
+
+    pub place-within : c .span .start + c .span .len ≤ length m
+    place-within = rw place-is (reading-within m n k)
 
   pub part-is : {p : Span} → p ≡ readingAt m n k → {x : List ℕ} → x ≡ drop (p .start) m → {y : List ℕ} → y ≡ take (p .len) x → y ≡ reading m n k
   unfolding reading

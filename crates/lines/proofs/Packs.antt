@@ -98,6 +98,24 @@ pub slot-padded : (ss : List Slot) (i : ℕ) (d : Slot) → i < length ss → i 
 unfolding padded
 slot-padded ss i d h k = slot-within _ i k ∙ slot-back ss (zeros (384 - 4 * length ss)) i d h
 
+-- and none past them
+
+getD-zeros : (n i : ℕ) → getD (zeros n) i 0 ≡ 0
+unfolding zeros
+getD-zeros zero i = refl
+getD-zeros (suc n) zero = refl
+getD-zeros (suc n) (suc i) = getD-zeros n i
+
+slot-over : (ss : List Slot) (n i : ℕ) → length ss ≤ i → four-at (packed ss ++ zeros n) i ≡ noSlot
+unfolding packed
+slot-over [] n i h = rw (getD-zeros n (4 * i), getD-zeros n (4 * i + 1), getD-zeros n (4 * i + 2), getD-zeros n (4 * i + 3))
+slot-over (s ∷ ss) n zero h = absurd (omega arith)
+slot-over (s ∷ ss) n (suc i) h = slot-on _ _ _ _ (packed ss ++ zeros n) i ∙ slot-over ss n i (omega arith)
+
+pub slot-none : (ss : List Slot) (i : ℕ) → length ss ≤ i → i < 96 → slotAt (padded ss) i ≡ noSlot
+unfolding padded
+slot-none ss i h k = slot-within _ i k ∙ slot-over ss (384 - 4 * length ss) i h
+
 first-take : (ss : List Slot) (i : ℕ) → length ss ≤ 96 → i ≤ length ss → firstSlots i (padded ss) ≡ take i ss
 unfolding firstSlots
 first-take ss zero k h = refl

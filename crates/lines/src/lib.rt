@@ -1,6 +1,7 @@
 // Reads the lines of a message: start line, fields, names, canonical values.
 ghost use mathlib.Core.Path.{_≡_};
-ghost use Prim.Native.Nat.{_≤_, _<_};
+ghost use Prim.Native.Nat.{_+_, _≤_, _<_};
+ghost use lib.ListN.{length};
 ghost use Rattle.sip.specs.Profile.{numberOf};
 ghost use Rattle.sip.specs.Readings.{spans, count, readingAt, reading};
 ghost use Rattle.lines.specs.Places.{startAt, fieldAt};
@@ -117,9 +118,9 @@ pub fn count(message: &[u8], n: u64) -> usize
     found.count
 }
 
-// Where the value of the k-th field of number n stands, k from 1.
+// Where the value of the k-th field of number n stands, k from 1. It lies within the message.
 pub fn reading_at(message: &[u8], n: u64, k: u64) -> sip::Span
-    ensures { λ r. ⌜ r ≡ readingAt (now (message .entry)) n k ⌝ }
+    ensures { λ r. ⌜ (r ≡ readingAt (now (message .entry)) n k) × (r .start + r .len ≤ length (now (message .entry))) ⌝ }
 {
     let found = found_in(message, n, k);
     found.span

@@ -1,6 +1,8 @@
 // What a gateway in C or Rust calls: numbers and byte slices only. A slice is a pointer and a length on the C side.
 use gateway::Verdict;
 ghost use mathlib.Core.Path.{_≡_};
+ghost use Prim.Native.Nat.{_+_, _≤_};
+ghost use lib.ListN.{length};
 ghost use Rattle.causes.specs.Causes.{status, cause};
 ghost use Rattle.sip.specs.Readings.{count, readingAt, callingAt};
 ghost use Rattle.octets.specs.Classes.{bit};
@@ -51,7 +53,7 @@ pub extern "C" fn mishkolar_reading(
     place: u64,
     start: &mut usize,
 ) -> usize
-    ensures { λ r. ⌜ (r ≡ readingAt (now (message .entry)) field place .len) × (now (start .exit) ≡ readingAt (now (message .entry)) field place .start) ⌝ }
+    ensures { λ r. ⌜ (r ≡ readingAt (now (message .entry)) field place .len) × (now (start .exit) ≡ readingAt (now (message .entry)) field place .start) × (now (start .exit) + r ≤ length (now (message .entry))) ⌝ }
 {
     let p = lines::reading_at(message, field, place);
     *start = p.start;

@@ -16,7 +16,7 @@ use Rattle.sip.specs.Output.{digits}
 
 -- ---- canonical values
 
-trimEnd-le : (p : ℕ → Bool) (s : List ℕ) → length (trimEnd p s) ≤ length s
+pub trimEnd-le : (p : ℕ → Bool) (s : List ℕ) → length (trimEnd p s) ≤ length s
 unfolding trimEnd
 trimEnd-le p [] = omega arith
 trimEnd-le p (b ∷ s) = go (trimEnd p s) (trimEnd-le p s)

@@ -18,6 +18,7 @@ pub mod Starred
 pub mod Useful
 pub mod Unfolded
 pub mod Spans
+pub mod Within
 pub mod Firsts
 pub mod Addresses
 pub mod Identities

@@ -24,6 +24,7 @@ count-is : (t : Tally) (n : ℕ) (good : Bool) {s a m : ℕ} → s ≡ bitOr (t 
       tags = t .tags;
       lacking = t .lacking;
       tag = t .tag;
+      number = t .number;
     }
     ≡ counted t n good
 unfolding counted

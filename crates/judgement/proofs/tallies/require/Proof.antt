@@ -23,6 +23,7 @@ require-is : (t : Tally) (f : Finding) {k l : ℕ} → k ≡ t .tags + f .len
       tags = k;
       lacking = l;
       tag = t .tag;
+      number = t .number;
     }
     ≡ required t f
 unfolding required
