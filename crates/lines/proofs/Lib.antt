@@ -11,3 +11,4 @@ pub mod Keeps
 pub mod Reached
 pub mod Messages
 pub mod Within
+pub mod Blocks

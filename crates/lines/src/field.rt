@@ -99,7 +99,7 @@ pub(crate) fn read(table: &[u8; 256], s: &[u8], at: usize) -> FieldAt
     if value <= name {
         return FieldAt::Bad;
     }
-    let line = scan::values(table, s, value);
+    let line = scan::line(table, s, value);
     let end = value_end(table, s, line);
     if s.len() <= end {
         return FieldAt::Bad;

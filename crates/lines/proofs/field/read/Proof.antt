@@ -17,8 +17,8 @@ colon-end-requires c κs = search needs
 returns-2 : tie.Need-returns-2
 returns-2 c = search colonless
 
-values-requires : tie.Need-values-requires
-values-requires c κs = search needs
+line-requires : tie.Need-line-requires
+line-requires c κs = search needs
 
 value-end-requires : tie.Need-value-end-requires
 value-end-requires c κs = (search needs, search needs, search line-over)
@@ -37,7 +37,7 @@ read-spec =
     returns
     colon-end-requires
     returns-2
-    values-requires
+    line-requires
     value-end-requires
     returns-3
     returns-4)
