@@ -47,8 +47,9 @@ pub(crate) fn unread(slots: &mut [u16; 384], reason: u64) -> Message
     }
 }
 
-// The slot of a field of that number whose value v stands at the place at. A value of one line is not looked at again for a line break.
-fn slot(number: usize, at: usize, v: &[u8], folded: bool) -> Slot
+// The slot of a field of that number whose value v stands at the place at, by the part of v without gaps at both ends. A value of one line
+// is not looked at again for a line break.
+fn trimmed_slot(number: usize, at: usize, v: &[u8], folded: bool) -> Slot
     requires { ⌜ (folded ≡ any isBreak (now v)) × (at + length (now v) ≤ 8192) ⌝ }
     ensures { λ r. ⌜ (r ≡ slotFor number at (now (v .entry))) × (r .number ≡ number) × (r .start + r .len ≤ 8192) ⌝ }
 {
@@ -80,6 +81,26 @@ fn slot(number: usize, at: usize, v: &[u8], folded: bool) -> Slot
         len,
         folded: broken,
     }
+}
+
+// The same, with a look first: most values stand on one line, after one space.
+fn slot(number: usize, at: usize, v: &[u8], folded: bool) -> Slot
+    requires { ⌜ (folded ≡ any isBreak (now v)) × (at + length (now v) ≤ 8192) ⌝ }
+    ensures { λ r. ⌜ (r ≡ slotFor number at (now (v .entry))) × (r .number ≡ number) × (r .start + r .len ≤ 8192) ⌝ }
+{
+    if !folded {
+        if value::is_plain(v) {
+            let start = at + 1;
+            let len = v.len() - 1;
+            return Slot {
+                number,
+                start,
+                len,
+                folded: false,
+            };
+        }
+    }
+    trimmed_slot(number, at, v, folded)
 }
 
 // The slot of the field between at and end, by where its name ends and its value starts. A field that is not listed has number 0.
