@@ -1,7 +1,9 @@
 // A field: name, spaces or tabs, colon, value, CRLF. Its parts are places of the one text, so that no slice is made for each of them.
 use crate::FieldAt;
 use crate::scan;
+use crate::words;
 ghost use mathlib.Core.Path.{_≡_};
+ghost use mathlib.Core.Bool.{cond};
 ghost use Prim.Native.Nat.{_+_, _≤_};
 ghost use lib.ListN.{length, drop};
 ghost use Rattle.octets.specs.Classes.{classTable, isValue};
@@ -40,11 +42,30 @@ fn is_blank(s: &[u8], at: usize) -> bool
     s[at] == b'\t'
 }
 
+// A CRLF stands there that no space or tab follows, so that the value ends. A control character behind it is left to a closer look.
+fn is_last_line(s: &[u8], line: usize) -> bool
+    requires { ⌜ line ≤ length (now s) ⌝ }
+    ensures { λ r. ⌜ valueEnd (now (s .entry)) line ≡ cond r line (valueEnd (now (s .entry)) line) ⌝ }
+{
+    if s.len() - line < 3 {
+        return false;
+    }
+    let lf = line + 1;
+    if words::pair(s[line], s[lf]) != words::pair(b'\r', b'\n') {
+        return false;
+    }
+    let next = line + 2;
+    b' ' < s[next]
+}
+
 // Where the value ends whose first line ends at `line`. At the end of the text where its shape is bad.
 fn value_end(table: &[u8; 256], s: &[u8], line: usize) -> usize
     requires { ⌜ (now table ≡ classTable) × (line ≤ length (now s)) × (run isValue (drop line (now s)) ≡ 0) ⌝ }
     ensures { λ r. ⌜ r ≡ valueEnd (now (s .entry)) line ⌝ }
 {
+    if is_last_line(s, line) {
+        return line;
+    }
     let mut end = line;
     while is_empty_line(s, end) {
         let after = end + 2;

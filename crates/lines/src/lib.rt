@@ -16,6 +16,7 @@ mod scan;
 mod slots;
 mod start;
 mod value;
+mod words;
 
 // The start line at the front of a text, by the lengths of its method and its Request-URI.
 pub enum StartAt {
