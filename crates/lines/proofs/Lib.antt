@@ -3,6 +3,7 @@ pub mod Values
 pub mod Trims
 pub mod Starts
 pub mod Fields
+pub mod NamedFields
 pub mod Spellings
 pub mod Packs
 pub mod Breaks

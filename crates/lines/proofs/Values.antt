@@ -136,7 +136,7 @@ value-fits zero (b ∷ s) {n} e =
 
 -- ---- a line break stands in a value exactly if more than its first line belongs to it
 
-crlf-first : (b : ℕ) (s : List ℕ) → startsCRLF (b ∷ s) ≡ true → b ≡ 13
+pub crlf-first : (b : ℕ) (s : List ℕ) → startsCRLF (b ∷ s) ≡ true → b ≡ 13
 unfolding startsCRLF
 crlf-first b [] e = never e
 crlf-first b (c ∷ s) e = eqb-true b 13 (and-eq-true-iff (eqb b 13) (eqb c 10) .0 e .0)
@@ -186,11 +186,17 @@ module _ (s : List ℕ) where
     rest-is : drop (run isValue (drop at s)) (drop at s) ≡ drop line s
     rest-is = drop-drop (run isValue (drop at s)) at s ∙ ap (λ (i : ℕ). drop i s) (sym h)
 
-    pub line-end : valueEnd s at ≡ valueEnd s line
+    line-end : valueEnd s at ≡ valueEnd s line
     unfolding valueEnd
     line-end =
         ap (endAt (length s) at) (past-line (drop at s)) ∙ end-plus at (run isValue (drop at s)) (valueSize 0 (drop (run isValue (drop at s)) (drop at s)))
         ∙ rw (rest-is, ← h)
+
+    pub end-after-line : {e : ℕ} → e ≡ valueEnd s line → e ≡ valueEnd s at
+    end-after-line q = q ∙ sym line-end
+
+    pub folded-line : (e : ℕ) → not (eqb e line) ≡ not (eqb e (at + run isValue (drop at s)))
+    folded-line e = rw h
 
     pub line-over : run isValue (drop line s) ≡ 0
     line-over = ap (run isValue) (sym rest-is) ∙ run-after isValue (drop at s)
