@@ -13,3 +13,5 @@ pub mod Reached
 pub mod Messages
 pub mod Within
 pub mod Blocks
+pub mod Quads
+pub mod Spelt

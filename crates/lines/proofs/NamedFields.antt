@@ -6,7 +6,7 @@ use Prim.Native.Nat.{ℕ, _+_, _-_, _≤_, _<_}
 use native.Mathlib.Omega.{arith}
 use lib.Dec.{eqb, ltb}
 use lib.ListN.{length, take, drop}
-use borrow.Author.Tests.{lt-ltb, le-ltb, ltb-true, ltb-false}
+use borrow.Author.Tests.{ne-eqb, lt-ltb, le-ltb, ltb-true, ltb-false}
 use Rattle.octets.specs.Classes.{isToken, isValue}
 use Rattle.octets.specs.Scans.{run}
 use Rattle.octets.proofs.Runs.{run-no, run-nil}
@@ -39,6 +39,10 @@ module _ (s : List ℕ) (at : ℕ) {x : ℕ} (hx : x ≡ at + run isToken (drop 
     named-so l hn =
         let z : x - at ≡ run isToken (drop at s) = omega arith in
         rw (name-there, ← hx, lt-ltb 0 (colonSize (drop x s)) (omega arith), ← hv, hn, z)
+
+-- one that is told by its bytes
+pub told-so : (s : List ℕ) (at : ℕ) (r : Named) → namedAt s at ≡ cond (eqb (r .number) 0) (namedAt s at) r → (r .number ≡ 0 → ⊥) → r ≡ namedAt s at
+told-so s at r e n = sym (e ∙ ap (λ (t : Bool). cond t (namedAt s at) r) (ne-eqb (r .number) 0 n))
 
 -- ---- what a caller knows of a name that is read
 

@@ -11,6 +11,7 @@ use slots::Counted;
 
 mod field;
 mod header;
+mod known;
 mod named;
 mod names;
 mod scan;

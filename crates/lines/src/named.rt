@@ -1,5 +1,6 @@
 // What stands before the value of a field: its name, spaces or tabs, and the colon.
 use crate::field;
+use crate::known;
 use crate::scan;
 ghost use mathlib.Core.Path.{_≡_};
 ghost use Prim.Native.Nat.{_≤_};
@@ -13,8 +14,8 @@ pub(crate) struct Named {
     pub value: usize,
 }
 
-// The name at a place, whatever it is.
-pub(crate) fn read(table: &[u8; 256], s: &[u8], at: usize) -> Named
+// The name at a place, however it is written.
+fn any(table: &[u8; 256], s: &[u8], at: usize) -> Named
     requires { ⌜ (now table ≡ classTable) × (at ≤ length (now s)) ⌝ }
     ensures { λ r. ⌜ (r ≡ namedAt (now (s .entry)) at) × (r .number ≤ 18) × (r .value ≤ length (now (s .entry))) ⌝ }
 {
@@ -34,4 +35,17 @@ pub(crate) fn read(table: &[u8; 256], s: &[u8], at: usize) -> Named
     }
     let number = crate::number_of(&s[at..name]);
     Named { number, value }
+}
+
+// The same, with a look first for the names as they are mostly written.
+pub(crate) fn read(table: &[u8; 256], s: &[u8], at: usize) -> Named
+    requires { ⌜ (now table ≡ classTable) × (at ≤ length (now s)) ⌝ }
+    ensures { λ r. ⌜ (r ≡ namedAt (now (s .entry)) at) × (r .number ≤ 18) × (r .value ≤ length (now (s .entry))) ⌝ }
+{
+    let told = known::read(s, at);
+    let number = told.number;
+    if number != 0 {
+        return told;
+    }
+    any(table, s, at)
 }
