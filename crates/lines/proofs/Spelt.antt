@@ -4,16 +4,18 @@ use mathlib.Core.Bool.{Bool, true, false, _&&_, and-eq-true-iff}
 use mathlib.Core.List.{List, [], _∷_, _++_, append-assoc}
 use Prim.Native.Nat.{ℕ, zero, suc, _+_, _≤_, _<_}
 use native.Mathlib.Omega.{arith}
-use lib.Dec.{eqb, ltb}
+use lib.Dec.{eqb}
 use lib.ListN.{length, take, drop, take-append-drop}
 use lib.Seq.{drop-drop, take-append-seam, drop-append-seam}
-use borrow.Author.Tests.{eqb-true, eqb-false, ltb-true, lt-ltb}
-use Rattle.octets.specs.Classes.{text, isToken, isBlank}
+use borrow.Author.Tests.{eqb-true, eqb-false, ne-eqb, lt-ltb}
+use Rattle.octets.specs.Classes.{text, within, isToken, isBlank}
 use Rattle.octets.specs.Scans.{run, all, starts, sameText}
 use Rattle.octets.proofs.Runs.{run-no, run-exact}
 use Rattle.sip.specs.Profile.{rows, lookup, numberOf, find, nameOf}
 use Rattle.lines.specs.Places.{namedAt}
 use Rattle.lines.specs.Sizes.{colonSize}
+use Rattle.lines.specs.Passes.{Told}
+use Rattle.lines.proofs.Starts.{within-true}
 use Rattle.lines.proofs.Quads.{Stands}
 
 colon-first : (t : List ℕ) → colonSize (58 ∷ t) ≡ 1
@@ -39,7 +41,7 @@ module _ (s : List ℕ) (at : ℕ) (name rest : List ℕ) (here : drop at s ≡ 
 
 told : ℕ → Bool
 unfolding nameOf find rows text all isToken numberOf lookup sameText
-told n = let name = nameOf n in ltb 0 (length name) && (all isToken name && eqb (numberOf name) n)
+told n = let name = nameOf n in within 1 19 (length name) && (all isToken name && eqb (numberOf name) n)
 
 every : ℕ → Bool
 every zero = true
@@ -59,15 +61,23 @@ one-of (suc k) n e h l = let b = and-eq-true-iff (told (suc k)) (every k) .0 e i
     go false q y f = let z : n ≡ suc k → ⊥ = eqb-false n (suc k) q in f (omega arith)
 
 -- the long name of number n stands at a place with its colon
-pub spelt : (s : List ℕ) (at n : ℕ) → 1 ≤ n → n ≤ 18 → Stands s at (length (nameOf n) + 1) (nameOf n ++ 58 ∷ [])
-    → {v : ℕ} → v ≡ at + (length (nameOf n) + 1) → namedAt s at ≡ record { number = n; value = v }
+pub spelt : {s : List ℕ} {at : ℕ} (n : ℕ) → within 1 18 n ≡ true → Stands s at (length (nameOf n) + 1) (nameOf n ++ 58 ∷ [])
+    → {v : ℕ} → v ≡ at + (length (nameOf n) + 1) → at + 20 ≤ length s → Told s at (record { number = n; value = v })
 unfolding told
-spelt s at n h l e {v} hv =
+spelt {s} {at} n h e {v} hv l =
     let name : List ℕ = nameOf n in
-    let a = and-eq-true-iff (ltb 0 (length name)) (all isToken name && eqb (numberOf name) n) .0 (one-of 18 n every-listed h l) in
+    let i = within-true 1 18 n h in
+    let a = and-eq-true-iff (within 1 19 (length name)) (all isToken name && eqb (numberOf name) n) .0 (one-of 18 n every-listed (i .0) (i .1)) in
     let b = and-eq-true-iff (all isToken name) (eqb (numberOf name) n) .0 (a .1) in
+    let k = within-true 1 19 (length name) (a .0) in
     let rest : List ℕ = drop (length name + 1) (drop at s) in
     let here : drop at s ≡ name ++ 58 ∷ rest
     = sym (take-append-drop (length name + 1) (drop at s)) ∙ ap (λ (x : List ℕ). x ++ rest) (e .stands) ∙ append-assoc name (58 ∷ []) rest in
     let z : at + length name + 1 ≡ v = omega arith in
-    name-at s at name rest here (ltb-true 0 (length name) (a .0)) (b .0) ∙ rw (eqb-true (numberOf name) n (b .1), z)
+    record {
+      told-named =
+          rw (ne-eqb n 0 (λ y. omega (arith, i)))
+          (name-at s at name rest here (omega (arith, k)) (b .0) ∙ rw (eqb-true (numberOf name) n (b .1), z));
+      told-number = i .1;
+      told-value = omega (arith, k);
+    }

@@ -178,7 +178,7 @@ start-by : (s : List ℕ) → start s ≡ cond (goodStart s) (some (startOf s)) 
 unfolding start
 start-by s = refl
 
-within-true : (lo hi n : ℕ) → within lo hi n ≡ true → (lo ≤ n) × (n ≤ hi)
+pub within-true : (lo hi n : ℕ) → within lo hi n ≡ true → (lo ≤ n) × (n ≤ hi)
 within-true lo hi n e = let i = and-eq-true-iff (leb lo n) (leb n hi) .0 e in (leb-true lo n (i .0), leb-true n hi (i .1))
 
 good-read : (s : List ℕ) → goodStart s ≡ true → {m u : ℕ} → m ≡ length (take (methodSize s) s) → u ≡ length (take (uriRun s) (drop (methodSize s + 1) s)) → StartRead s m u

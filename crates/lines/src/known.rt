@@ -1,12 +1,9 @@
 // The listed names as they are mostly written, with the colon right behind them: told at their place, four bytes at a time.
 use crate::named::Named;
 use crate::words;
-ghost use mathlib.Core.Path.{_≡_};
-ghost use mathlib.Core.Bool.{cond};
 ghost use Prim.Native.Nat.{_+_, _≤_};
-ghost use lib.Dec.{eqb};
 ghost use lib.ListN.{length};
-ghost use Rattle.lines.specs.Places.{namedAt};
+ghost use Rattle.lines.specs.Passes.{Told};
 
 // Another name, or one that is written otherwise.
 const OTHER: Named = Named {
@@ -16,7 +13,7 @@ const OTHER: Named = Named {
 
 fn via(s: &[u8], at: usize) -> Named
     requires { ⌜ at + 20 ≤ length (now s) ⌝ }
-    ensures { λ r. ⌜ (namedAt (now (s .entry)) at ≡ cond (eqb (r .number) 0) (namedAt (now (s .entry)) at) r) × (r .number ≤ 18) × (r .value ≤ length (now (s .entry))) ⌝ }
+    ensures { λ r. ⌜ Told (now (s .entry)) at r ⌝ }
 {
     if words::is(s, at, b"Via:") {
         let value = at + 4;
@@ -27,7 +24,7 @@ fn via(s: &[u8], at: usize) -> Named
 
 fn max_forwards(s: &[u8], at: usize) -> Named
     requires { ⌜ at + 20 ≤ length (now s) ⌝ }
-    ensures { λ r. ⌜ (namedAt (now (s .entry)) at ≡ cond (eqb (r .number) 0) (namedAt (now (s .entry)) at) r) × (r .number ≤ 18) × (r .value ≤ length (now (s .entry))) ⌝ }
+    ensures { λ r. ⌜ Told (now (s .entry)) at r ⌝ }
 {
     if !words::both(s, at, b"Max-", 4, b"Forw") {
         return OTHER;
@@ -42,7 +39,7 @@ fn max_forwards(s: &[u8], at: usize) -> Named
 
 fn from(s: &[u8], at: usize) -> Named
     requires { ⌜ at + 20 ≤ length (now s) ⌝ }
-    ensures { λ r. ⌜ (namedAt (now (s .entry)) at ≡ cond (eqb (r .number) 0) (namedAt (now (s .entry)) at) r) × (r .number ≤ 18) × (r .value ≤ length (now (s .entry))) ⌝ }
+    ensures { λ r. ⌜ Told (now (s .entry)) at r ⌝ }
 {
     if words::both(s, at, b"From", 1, b"rom:") {
         let value = at + 5;
@@ -54,7 +51,7 @@ fn from(s: &[u8], at: usize) -> Named
 // A name of two bytes: the space after its colon makes a word of it.
 fn to(s: &[u8], at: usize) -> Named
     requires { ⌜ at + 20 ≤ length (now s) ⌝ }
-    ensures { λ r. ⌜ (namedAt (now (s .entry)) at ≡ cond (eqb (r .number) 0) (namedAt (now (s .entry)) at) r) × (r .number ≤ 18) × (r .value ≤ length (now (s .entry))) ⌝ }
+    ensures { λ r. ⌜ Told (now (s .entry)) at r ⌝ }
 {
     if words::is(s, at, b"To: ") {
         let value = at + 3;
@@ -65,7 +62,7 @@ fn to(s: &[u8], at: usize) -> Named
 
 fn supported(s: &[u8], at: usize) -> Named
     requires { ⌜ at + 20 ≤ length (now s) ⌝ }
-    ensures { λ r. ⌜ (namedAt (now (s .entry)) at ≡ cond (eqb (r .number) 0) (namedAt (now (s .entry)) at) r) × (r .number ≤ 18) × (r .value ≤ length (now (s .entry))) ⌝ }
+    ensures { λ r. ⌜ Told (now (s .entry)) at r ⌝ }
 {
     if !words::both(s, at, b"Supp", 2, b"ppor") {
         return OTHER;
@@ -80,7 +77,7 @@ fn supported(s: &[u8], at: usize) -> Named
 
 fn with_a(s: &[u8], at: usize) -> Named
     requires { ⌜ at + 20 ≤ length (now s) ⌝ }
-    ensures { λ r. ⌜ (namedAt (now (s .entry)) at ≡ cond (eqb (r .number) 0) (namedAt (now (s .entry)) at) r) × (r .number ≤ 18) × (r .value ≤ length (now (s .entry))) ⌝ }
+    ensures { λ r. ⌜ Told (now (s .entry)) at r ⌝ }
 {
     if words::both(s, at, b"Allo", 2, b"low:") {
         let value = at + 6;
@@ -95,7 +92,7 @@ fn with_a(s: &[u8], at: usize) -> Named
 
 fn content(s: &[u8], at: usize) -> Named
     requires { ⌜ at + 20 ≤ length (now s) ⌝ }
-    ensures { λ r. ⌜ (namedAt (now (s .entry)) at ≡ cond (eqb (r .number) 0) (namedAt (now (s .entry)) at) r) × (r .number ≤ 18) × (r .value ≤ length (now (s .entry))) ⌝ }
+    ensures { λ r. ⌜ Told (now (s .entry)) at r ⌝ }
 {
     if !words::both(s, at, b"Cont", 4, b"ent-") {
         return OTHER;
@@ -114,7 +111,7 @@ fn content(s: &[u8], at: usize) -> Named
 
 fn with_c(s: &[u8], at: usize) -> Named
     requires { ⌜ at + 20 ≤ length (now s) ⌝ }
-    ensures { λ r. ⌜ (namedAt (now (s .entry)) at ≡ cond (eqb (r .number) 0) (namedAt (now (s .entry)) at) r) × (r .number ≤ 18) × (r .value ≤ length (now (s .entry))) ⌝ }
+    ensures { λ r. ⌜ Told (now (s .entry)) at r ⌝ }
 {
     if words::both(s, at, b"CSeq", 1, b"Seq:") {
         let value = at + 5;
@@ -133,7 +130,7 @@ fn with_c(s: &[u8], at: usize) -> Named
 
 fn record_route(s: &[u8], at: usize) -> Named
     requires { ⌜ at + 20 ≤ length (now s) ⌝ }
-    ensures { λ r. ⌜ (namedAt (now (s .entry)) at ≡ cond (eqb (r .number) 0) (namedAt (now (s .entry)) at) r) × (r .number ≤ 18) × (r .value ≤ length (now (s .entry))) ⌝ }
+    ensures { λ r. ⌜ Told (now (s .entry)) at r ⌝ }
 {
     if !words::both(s, at, b"Reco", 4, b"rd-R") {
         return OTHER;
@@ -148,7 +145,7 @@ fn record_route(s: &[u8], at: usize) -> Named
 
 fn with_r(s: &[u8], at: usize) -> Named
     requires { ⌜ at + 20 ≤ length (now s) ⌝ }
-    ensures { λ r. ⌜ (namedAt (now (s .entry)) at ≡ cond (eqb (r .number) 0) (namedAt (now (s .entry)) at) r) × (r .number ≤ 18) × (r .value ≤ length (now (s .entry))) ⌝ }
+    ensures { λ r. ⌜ Told (now (s .entry)) at r ⌝ }
 {
     if words::both(s, at, b"Rout", 2, b"ute:") {
         let value = at + 6;
@@ -167,7 +164,7 @@ fn with_r(s: &[u8], at: usize) -> Named
 
 fn asserted_identity(s: &[u8], at: usize) -> Named
     requires { ⌜ at + 20 ≤ length (now s) ⌝ }
-    ensures { λ r. ⌜ (namedAt (now (s .entry)) at ≡ cond (eqb (r .number) 0) (namedAt (now (s .entry)) at) r) × (r .number ≤ 18) × (r .value ≤ length (now (s .entry))) ⌝ }
+    ensures { λ r. ⌜ Told (now (s .entry)) at r ⌝ }
 {
     if !words::both(s, at, b"P-As", 4, b"sert") {
         return OTHER;
@@ -186,7 +183,7 @@ fn asserted_identity(s: &[u8], at: usize) -> Named
 
 fn with_p(s: &[u8], at: usize) -> Named
     requires { ⌜ at + 20 ≤ length (now s) ⌝ }
-    ensures { λ r. ⌜ (namedAt (now (s .entry)) at ≡ cond (eqb (r .number) 0) (namedAt (now (s .entry)) at) r) × (r .number ≤ 18) × (r .value ≤ length (now (s .entry))) ⌝ }
+    ensures { λ r. ⌜ Told (now (s .entry)) at r ⌝ }
 {
     if words::both(s, at, b"Priv", 4, b"acy:") {
         let value = at + 8;
@@ -198,7 +195,7 @@ fn with_p(s: &[u8], at: usize) -> Named
 // The name at a place, by its first letter. Number 0 where it is not told so; the longest has 20 bytes with its colon.
 pub(crate) fn read(s: &[u8], at: usize) -> Named
     requires { ⌜ at ≤ length (now s) ⌝ }
-    ensures { λ r. ⌜ (namedAt (now (s .entry)) at ≡ cond (eqb (r .number) 0) (namedAt (now (s .entry)) at) r) × (r .number ≤ 18) × (r .value ≤ length (now (s .entry))) ⌝ }
+    ensures { λ r. ⌜ Told (now (s .entry)) at r ⌝ }
 {
     if s.len() - at < 20 {
         return OTHER;

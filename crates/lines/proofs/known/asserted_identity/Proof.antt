@@ -51,7 +51,12 @@ add-value c = search needs
 
 returns-3 : tie.Need-returns-3
 unfolding nameOf find rows text
-returns-3 c = (spelt _ _ 15 (omega arith) (omega arith) (then-at (then-at (both-at _ 4 _ (c .before .before .before .before .before .before .before .before .both .ensures) (not-false _ (c .before .before .before .before .before .before .before .if1 .left)) (omega arith)) (both-at _ 4 _ (c .before .before .before .before .both2 .ensures) (not-false _ (c .before .before .before .if2 .left)) (omega arith))) (word-at _ (c .before .is .ensures) (c .if3 .taken))) refl, search needs, search needs)
+returns-3 c =
+    let f = c .before .before .before in
+    let e = f .before .before .before .before in
+    let front = both-at _ 4 _ (e .before .both .ensures) (not-false _ (e .if1 .left)) (omega arith) in
+    let middle = both-at _ 4 _ (f .before .both2 .ensures) (not-false _ (f .if2 .left)) (omega arith) in
+    spelt 15 refl (then-at (then-at front middle) (word-at _ (c .before .is .ensures) (c .if3 .taken))) refl (search needs)
 
 returns-4 : tie.Need-returns-4
 returns-4 c = search needs

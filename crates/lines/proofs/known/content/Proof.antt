@@ -39,7 +39,10 @@ add-value c = search needs
 
 returns-2 : tie.Need-returns-2
 unfolding nameOf find rows text
-returns-2 c = (spelt _ _ 8 (omega arith) (omega arith) (then-at (both-at _ 4 _ (c .before .before .before .before .before .both .ensures) (not-false _ (c .before .before .before .before .if1 .left)) (omega arith)) (both-at _ 3 _ (c .before .both2 .ensures) (c .if2 .taken) (omega arith))) refl, search needs, search needs)
+returns-2 c =
+    let e = c .before .before .before .before in
+    let front = both-at _ 4 _ (e .before .both .ensures) (not-false _ (e .if1 .left)) (omega arith) in
+    spelt 8 refl (then-at front (both-at _ 3 _ (c .before .both2 .ensures) (c .if2 .taken) (omega arith))) refl (search needs)
 
 slice-aggregate-both-5 : tie.Need-slice-aggregate-both-5
 slice-aggregate-both-5 c = search needs
@@ -55,7 +58,10 @@ add-value-2 c = search needs
 
 returns-3 : tie.Need-returns-3
 unfolding nameOf find rows text
-returns-3 c = (spelt _ _ 9 (omega arith) (omega arith) (then-at (both-at _ 4 _ (c .before .before .before .before .before .before .before .before .before .both .ensures) (not-false _ (c .before .before .before .before .before .before .before .before .if1 .left)) (omega arith)) (both-at _ 1 _ (c .before .both3 .ensures) (c .if3 .taken) (omega arith))) refl, search needs, search needs)
+returns-3 c =
+    let e = c .before .before .before .before .before .before .before .before in
+    let front = both-at _ 4 _ (e .before .both .ensures) (not-false _ (e .if1 .left)) (omega arith) in
+    spelt 9 refl (then-at front (both-at _ 1 _ (c .before .both3 .ensures) (c .if3 .taken) (omega arith))) refl (search needs)
 
 returns-4 : tie.Need-returns-4
 returns-4 c = search needs

@@ -23,7 +23,7 @@ add-value c = search needs
 
 returns : tie.Need-returns
 unfolding nameOf find rows text
-returns c = (spelt _ _ 3 (omega arith) (omega arith) (both-at _ 1 _ (c .before .both .ensures) (c .if1 .taken) (omega arith)) refl, search needs, search needs)
+returns c = spelt 3 refl (both-at _ 1 _ (c .before .both .ensures) (c .if1 .taken) (omega arith)) refl (search needs)
 
 returns-2 : tie.Need-returns-2
 returns-2 c = search needs

@@ -39,7 +39,10 @@ add-value c = search needs
 
 returns-2 : tie.Need-returns-2
 unfolding nameOf find rows text
-returns-2 c = (spelt _ _ 18 (omega arith) (omega arith) (then-at (both-at _ 4 _ (c .before .before .before .before .before .both .ensures) (not-false _ (c .before .before .before .before .if1 .left)) (omega arith)) (both-at _ 1 _ (c .before .both2 .ensures) (c .if2 .taken) (omega arith))) refl, search needs, search needs)
+returns-2 c =
+    let e = c .before .before .before .before in
+    let front = both-at _ 4 _ (e .before .both .ensures) (not-false _ (e .if1 .left)) (omega arith) in
+    spelt 18 refl (then-at front (both-at _ 1 _ (c .before .both2 .ensures) (c .if2 .taken) (omega arith))) refl (search needs)
 
 returns-3 : tie.Need-returns-3
 returns-3 c = search needs

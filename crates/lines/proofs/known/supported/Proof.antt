@@ -36,7 +36,10 @@ add-value c = search needs
 
 returns-2 : tie.Need-returns-2
 unfolding nameOf find rows text
-returns-2 c = (spelt _ _ 13 (omega arith) (omega arith) (then-at (both-at _ 2 _ (c .before .before .before .before .both .ensures) (not-false _ (c .before .before .before .if1 .left)) (omega arith)) (word-at _ (c .before .is .ensures) (c .if2 .taken))) refl, search needs, search needs)
+returns-2 c =
+    let e = c .before .before .before in
+    let front = both-at _ 2 _ (e .before .both .ensures) (not-false _ (e .if1 .left)) (omega arith) in
+    spelt 13 refl (then-at front (word-at _ (c .before .is .ensures) (c .if2 .taken))) refl (search needs)
 
 returns-3 : tie.Need-returns-3
 returns-3 c = search needs

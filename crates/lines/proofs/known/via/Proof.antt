@@ -20,7 +20,7 @@ add-value c = search needs
 
 returns : tie.Need-returns
 unfolding nameOf find rows text
-returns c = (spelt _ _ 1 (omega arith) (omega arith) (word-at _ (c .before .is .ensures) (c .if1 .taken)) refl, search needs, search needs)
+returns c = spelt 1 refl (word-at _ (c .before .is .ensures) (c .if1 .taken)) refl (search needs)
 
 returns-2 : tie.Need-returns-2
 returns-2 c = search needs

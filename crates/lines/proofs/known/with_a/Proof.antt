@@ -23,7 +23,7 @@ add-value c = search needs
 
 returns : tie.Need-returns
 unfolding nameOf find rows text
-returns c = (spelt _ _ 12 (omega arith) (omega arith) (both-at _ 2 _ (c .before .both .ensures) (c .if1 .taken) (omega arith)) refl, search needs, search needs)
+returns c = spelt 12 refl (both-at _ 2 _ (c .before .both .ensures) (c .if1 .taken) (omega arith)) refl (search needs)
 
 slice-aggregate-both-3 : tie.Need-slice-aggregate-both-3
 slice-aggregate-both-3 c = search needs
@@ -39,7 +39,7 @@ add-value-2 c = search needs
 
 returns-2 : tie.Need-returns-2
 unfolding nameOf find rows text
-returns-2 c = (spelt _ _ 17 (omega arith) (omega arith) (both-at _ 3 _ (c .before .both2 .ensures) (c .if2 .taken) (omega arith)) refl, search needs, search needs)
+returns-2 c = spelt 17 refl (both-at _ 3 _ (c .before .both2 .ensures) (c .if2 .taken) (omega arith)) refl (search needs)
 
 returns-3 : tie.Need-returns-3
 returns-3 c = search needs

@@ -23,7 +23,7 @@ add-value c = search needs
 
 returns : tie.Need-returns
 unfolding nameOf find rows text
-returns c = (spelt _ _ 16 (omega arith) (omega arith) (both-at _ 4 _ (c .before .both .ensures) (c .if1 .taken) (omega arith)) refl, search needs, search needs)
+returns c = spelt 16 refl (both-at _ 4 _ (c .before .both .ensures) (c .if1 .taken) (omega arith)) refl (search needs)
 
 asserted-identity-requires : tie.Need-asserted-identity-requires
 asserted-identity-requires c κs = search needs

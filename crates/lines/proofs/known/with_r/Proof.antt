@@ -23,7 +23,7 @@ add-value c = search needs
 
 returns : tie.Need-returns
 unfolding nameOf find rows text
-returns c = (spelt _ _ 10 (omega arith) (omega arith) (both-at _ 2 _ (c .before .both .ensures) (c .if1 .taken) (omega arith)) refl, search needs, search needs)
+returns c = spelt 10 refl (both-at _ 2 _ (c .before .both .ensures) (c .if1 .taken) (omega arith)) refl (search needs)
 
 slice-aggregate-both-3 : tie.Need-slice-aggregate-both-3
 slice-aggregate-both-3 c = search needs
@@ -39,7 +39,7 @@ add-value-2 c = search needs
 
 returns-2 : tie.Need-returns-2
 unfolding nameOf find rows text
-returns-2 c = (spelt _ _ 14 (omega arith) (omega arith) (both-at _ 4 _ (c .before .both2 .ensures) (c .if2 .taken) (omega arith)) refl, search needs, search needs)
+returns-2 c = spelt 14 refl (both-at _ 4 _ (c .before .both2 .ensures) (c .if2 .taken) (omega arith)) refl (search needs)
 
 slice-aggregate-both-5 : tie.Need-slice-aggregate-both-5
 slice-aggregate-both-5 c = search needs
@@ -55,7 +55,7 @@ add-value-3 c = search needs
 
 returns-3 : tie.Need-returns-3
 unfolding nameOf find rows text
-returns-3 c = (spelt _ _ 11 (omega arith) (omega arith) (both-at _ 3 _ (c .before .both3 .ensures) (c .if3 .taken) (omega arith)) refl, search needs, search needs)
+returns-3 c = spelt 11 refl (both-at _ 3 _ (c .before .both3 .ensures) (c .if3 .taken) (omega arith)) refl (search needs)
 
 record-route-requires : tie.Need-record-route-requires
 record-route-requires c κs = search needs
