@@ -1,5 +1,6 @@
-// The listed names as they are mostly written, with the colon right behind them: told at their place, four bytes at a time.
+// The listed names as they are mostly written, with the colon right behind them: told at their place, the long ones four bytes at a time.
 use crate::named::Named;
+use crate::names;
 use crate::words;
 ghost use Prim.Native.Nat.{_+_, _≤_};
 ghost use lib.ListN.{length};
@@ -192,14 +193,11 @@ fn with_p(s: &[u8], at: usize) -> Named
     asserted_identity(s, at)
 }
 
-// The name at a place, by its first letter. Number 0 where it is not told so; the longest has 20 bytes with its colon.
-pub(crate) fn read(s: &[u8], at: usize) -> Named
-    requires { ⌜ at ≤ length (now s) ⌝ }
+// A long name, by its first letter.
+fn long(s: &[u8], at: usize) -> Named
+    requires { ⌜ at + 20 ≤ length (now s) ⌝ }
     ensures { λ r. ⌜ Told (now (s .entry)) at r ⌝ }
 {
-    if s.len() - at < 20 {
-        return OTHER;
-    }
     let first = s[at];
     match first {
         b'V' => via(s, at),
@@ -213,4 +211,25 @@ pub(crate) fn read(s: &[u8], at: usize) -> Named
         b'P' => with_p(s, at),
         _ => OTHER,
     }
+}
+
+// The name at a place. The longest has 20 bytes with its colon, so that most fields have room for the look.
+pub(crate) fn read(s: &[u8], at: usize) -> Named
+    requires { ⌜ at ≤ length (now s) ⌝ }
+    ensures { λ r. ⌜ Told (now (s .entry)) at r ⌝ }
+{
+    let left = s.len() - at;
+    if left < 2 {
+        return OTHER;
+    }
+    let colon = at + 1;
+    if s[colon] == b':' {
+        let value = at + 2;
+        let number = names::compact(s[at]);
+        return Named { number, value };
+    }
+    if left < 20 {
+        return OTHER;
+    }
+    long(s, at)
 }
