@@ -2,11 +2,11 @@
 use mathlib.Core.Path.{_≡_, refl, sym, ap, _∙_}
 use mathlib.Core.Bool.{Bool, true, false, not, cond, _||_}
 use mathlib.Core.List.{List, [], _∷_}
-use Prim.Native.Nat.{ℕ, zero, suc, _+_, _-_, _≤_, _<_}
+use Prim.Native.Nat.{ℕ, zero, suc, _+_, _-_, _*_, _≤_, _<_}
 use native.Mathlib.Omega.{arith}
 use lib.ListN.{length, take, drop}
 use borrow.Author.Tests.{not-true}
-use Rattle.octets.specs.Classes.{isBreak, isGap}
+use Rattle.octets.specs.Classes.{bit, isBreak, isGap}
 use Rattle.octets.specs.Scans.{run, any}
 use Rattle.sip.specs.Lines.{unlessLast, trimEnd, trim}
 use Rattle.sip.specs.Values.{isEmpty}
@@ -115,3 +115,19 @@ module _ (number at : ℕ) (v : List ℕ) {p : Span} (hp : p ≡ valuePart v) wh
           let a : g ≡ run isGap v = hg ∙ ap (λ (z : Span). z .start) part-is in
           let b : e - g ≡ length (trim isGap v) = omega (arith, ap (λ (z : Span). z .len) part-is) in
           slot-by (hf ∙ ap (any isBreak) (rw (b, a) (sym (trim-part v))))
+
+-- ---- a value on one line that stands after one space
+
+pub after-space : {n : ℕ} (r : Bool) → r ≡ true → 2 * bit r ≤ n → 2 ≤ n
+after-space r q k = omega (arith, rw q at k)
+
+module _ (number at : ℕ) (v : List ℕ) (r : Bool) (q : r ≡ true) (k : 2 * bit r ≤ length v) where
+  pub spaced-slot : {d : Bool} → d ≡ any isBreak v → not d ≡ true
+      → valuePart v ≡ cond r (record { start = 1; len = length v - 1 }) (valuePart v)
+      → {i : ℕ} → i ≡ at + 1 → {l : ℕ} → l ≡ length v - 1
+      → record { number = number; start = i; len = l; folded = false } ≡ slotFor number at v
+  spaced-slot hd n e {i} hi {l} hl =
+      let p : valuePart v ≡ record { start = 1; len = length v - 1 } = rw q at e in
+      let b : l ≡ valuePart v .len = rw p hl in
+      let a : i ≡ at + valuePart v .start = rw p hi in
+      plain-slot number at v refl b (omega (arith, after-space r q k)) a hd n

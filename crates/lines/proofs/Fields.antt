@@ -18,7 +18,7 @@ use Rattle.lines.specs.Places.{breaks, fieldPlaces, fieldAt}
 use Rattle.lines.specs.Sizes.{colonSize, endAt, valueEnd}
 use Rattle.lines.specs.declared.FieldAt.{FieldAt}
 use Rattle.lines.specs.declared.FieldAt.the-variants.{Found, Bad}
-use Rattle.lines.proofs.Values.{value-fits, value-breaks, line-end}
+use Rattle.lines.proofs.Values.{value-fits, value-breaks}
 
 -- ---- spaces or tabs, and a colon
 
@@ -161,7 +161,7 @@ module _ (s : List ℕ) (at : ℕ) {x : ℕ} (hx : x ≡ at + run isToken (drop 
     unfolding fieldAt
     colonless l = rw (no-sign (drop at s) name-long at-name colon-long (omega arith) (omega arith))
 
-    module _ (l : x < v) {i : ℕ} (hi : i ≡ v + run isValue (drop v s)) {e : ℕ} (he : e ≡ valueEnd s i) where
+    module _ (l : x < v) {e : ℕ} (he : e ≡ valueEnd s v) where
       by-value : fieldAt s at ≡ fieldPlaces s at (shapeOf (x - at) (v - x - 1) (valueSize 0 (drop v s)))
       unfolding fieldAt
       by-value =
@@ -170,7 +170,7 @@ module _ (s : List ℕ) (at : ℕ) {x : ℕ} (hx : x ≡ at + run isToken (drop 
 
       end-is : e ≡ endAt (length s) v (valueSize 0 (drop v s))
       unfolding valueEnd
-      end-is = he ∙ sym (line-end s v hi)
+      end-is = he
 
       pub endless : length s ≤ e → Bad ≡ fieldAt s at
       endless q = rw (by-value, end-none s v (valueSize 0 (drop v s)) refl (omega (arith, end-is)))
@@ -179,17 +179,18 @@ module _ (s : List ℕ) (at : ℕ) {x : ℕ} (hx : x ≡ at + run isToken (drop 
         sized : (valueSize 0 (drop v s) ≡ some (e - v)) × (v ≤ e)
         sized = end-some (length s) v (valueSize 0 (drop v s)) end-is q
 
-        folds : breaks (e - v) (drop v s) ≡ not (eqb e i)
+        folds : breaks (e - v) (drop v s) ≡ not (eqb e (v + run isValue (drop v s)))
         folds =
-            let r : run isValue (drop v s) ≡ i - v = omega arith in
-            value-breaks (drop v s) (e - v) (sized .0) ∙ rw (r, eqb-from v e i (sized .1) (omega arith))
+            let r : run isValue (drop v s) ≡ v + run isValue (drop v s) - v = omega arith in
+            value-breaks (drop v s) (e - v) (sized .0) ∙ ap (λ (k : ℕ). not (eqb (e - v) k)) r
+            ∙ ap not (eqb-from v e (v + run isValue (drop v s)) (sized .1) (omega arith))
 
-        pub found : Found x v e (not (eqb e i)) ≡ fieldAt s at
-        found =
+        pub found : {d : Bool} → d ≡ not (eqb e (v + run isValue (drop v s))) → Found x v e d ≡ fieldAt s at
+        found hd =
             let a : at + (x - at) ≡ x = omega arith in
             let b : x + (v - x - 1) + 1 ≡ v = omega arith in
             let c : v + (e - v) ≡ e = omega (arith, sized .1) in
-            rw (by-value, sized .0, a, b, c, folds)
+            rw (by-value, sized .0, a, b, c, folds, hd)
 
 -- ---- what a caller knows of a field that is found
 

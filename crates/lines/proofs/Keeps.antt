@@ -1,33 +1,44 @@
--- A slot that is kept or not, by the tests of `keeps`; and the four stores of one.
+-- A slot that is kept or not, by the tests of `keeps`; the four stores of one; and what ends the fields where no name stands.
 use mathlib.Core.Path.{_≡_}
-use mathlib.Core.Bool.{true, false, cond}
+use mathlib.Core.Bool.{Bool, true, false, cond}
 use mathlib.Core.List.{List}
-use Prim.Native.Nat.{ℕ, _+_, _*_, _-_, _≤_, _<_}
+use Prim.Native.Nat.{ℕ, _+_, _*_, _≤_, _<_}
 use native.Mathlib.Omega.{arith}
-use lib.ListN.{take, drop, set}
+use lib.ListN.{drop, set}
 use borrow.Author.Tests.{eq-eqb, ne-eqb, lt-ltb, le-ltb}
 use Rattle.octets.specs.Classes.{bit}
-use Rattle.sip.specs.Profile.{numberOf}
+use Rattle.sip.specs.Lines.{startsCRLF}
 use Rattle.lines.specs.Index.{noSlot}
-use Rattle.lines.specs.Passes.{slotFor, listedSlot, stored, keeps}
+use Rattle.lines.specs.Passes.{slotFor, listedSlot, stored, keeps, refusedEnd, closedEnd}
 use Rattle.lines.specs.declared.Slot.{Slot}
+use Rattle.lines.specs.declared.header.Ended.{Ended}
 
 module _ (ns : List ℕ) (i : ℕ) (s : Slot) where
   pub four-stored : {a x y z w : ℕ} → a ≡ 4 * i → x ≡ s .number → y ≡ s .start → z ≡ s .len → w ≡ bit (s .folded)
       → set (set (set (set ns a x) (a + 1) y) (a + 2) z) (a + 3) w ≡ stored ns i s
   four-stored a x y z w = rw (a, x, y, z, w)
 
--- ---- the slot of a field between two places
+-- ---- the slot of a field, listed or not
 
-module _ (m : List ℕ) (at x v e : ℕ) {n : ℕ} (hn : n ≡ numberOf (take (x - at) (drop at m))) where
-  pub unlisted-slot : n < 1 → noSlot ≡ listedSlot (numberOf (take (x - at) (drop at m))) v (take (e - v) (drop v m))
+module _ (n v : ℕ) (t : List ℕ) where
+  pub unlisted-slot : n < 1 → noSlot ≡ listedSlot n v t
   unfolding listedSlot
-  unlisted-slot h = rw (← hn, eq-eqb n 0 (omega arith))
+  unlisted-slot h = rw (eq-eqb n 0 (omega arith))
 
-  pub listed-slot : 1 ≤ n → {r : Slot} → r ≡ slotFor n v (take (e - v) (drop v m))
-      → r ≡ listedSlot (numberOf (take (x - at) (drop at m))) v (take (e - v) (drop v m))
+  pub listed-slot : 1 ≤ n → {r : Slot} → r ≡ slotFor n v t → r ≡ listedSlot n v t
   unfolding listedSlot
-  listed-slot h hr = rw (← hn, ne-eqb n 0 (λ z. omega arith)) hr
+  listed-slot h hr = rw (ne-eqb n 0 (λ z. omega arith)) hr
+
+-- ---- where no name stands, the fields end or are bad
+
+module _ (s : List ℕ) (at number count : ℕ) {b : Bool} (hb : b ≡ startsCRLF (drop at s)) where
+  pub if-empty : b ≡ true → {k : ℕ} → k ≡ at + 2 → {r : Ended} → r ≡ closedEnd number k count
+      → r ≡ cond (startsCRLF (drop at s)) (closedEnd number (at + 2) count) (refusedEnd 4)
+  if-empty q z e = rw (← hb, q, ← z) e
+
+  pub if-not-empty : b ≡ false → {r : Ended} → r ≡ refusedEnd 4
+      → r ≡ cond (startsCRLF (drop at s)) (closedEnd number (at + 2) count) (refusedEnd 4)
+  if-not-empty q e = rw (← hb, q) e
 
 -- ---- the tests of `keeps`
 

@@ -3,6 +3,7 @@ pub mod Values
 pub mod Trims
 pub mod Starts
 pub mod Fields
+pub mod NamedFields
 pub mod Spellings
 pub mod Packs
 pub mod Breaks
@@ -11,3 +12,6 @@ pub mod Keeps
 pub mod Reached
 pub mod Messages
 pub mod Within
+pub mod Blocks
+pub mod Quads
+pub mod Spelt

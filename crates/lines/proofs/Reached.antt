@@ -1,6 +1,6 @@
 -- A pass over the fields: what is stored so far and what the fields from a place on come to are the message. One step is one field.
 use mathlib.Core.Path.{_≡_, refl, sym, ap, _∙_}
-use mathlib.Core.Bool.{Bool, true, false, cond}
+use mathlib.Core.Bool.{Bool, true, false, not, cond}
 use mathlib.Core.List.{List, [], _∷_, _++_, append-nil}
 use mathlib.Core.Option.{Option, none, some}
 use Prim.Native.Nat.{ℕ, suc, _+_, _-_, _^_, _≤_, _<_}
@@ -9,25 +9,27 @@ use lib.Dec.{leb, ltb, eqb}
 use lib.ListN.{length, take, drop, length-append, length-drop, drop-of-length-le}
 use lib.Seq.{append-snoc, length-take-le, drop-drop}
 use borrow.Author.Tests.{ltb-true, ltb-false, leb-true, leb-false, le-leb, lt-leb}
-use Rattle.octets.specs.Classes.{isBreak}
-use Rattle.octets.specs.Scans.{any}
+use Rattle.octets.specs.Classes.{isBreak, isValue}
+use Rattle.octets.specs.Scans.{run, any}
 use Rattle.sip.specs.Lines.{Start, startSize, startsCRLF, Shape, shape, size, Field, bytes, fieldOf, Header, withField, header}
 use Rattle.sip.specs.Profile.{numberOf}
 use Rattle.sip.specs.Refusals.{unread, read, lines}
 use Rattle.sip.specs.Readings.{valueSpan}
 use Rattle.sip.proofs.Fields.{FieldHere, field-here, length-bytes}
 use Rattle.sip.proofs.Headers.{header-next}
-use Rattle.lines.specs.Places.{startAt, fieldAt}
+use Rattle.lines.specs.Places.{startAt, fieldAt, namedAt}
+use Rattle.lines.specs.Sizes.{valueEnd}
 use Rattle.lines.specs.Index.{slotOf, slotsOf, padded, Indexed, unreadIndex, indexOf, index, noSlot}
 use Rattle.lines.specs.Passes.{slotFor, listedSlot, stored, keeps, refusedEnd, closedEnd, settled}
 use Rattle.lines.specs.declared.StartAt.the-variants.{Found as StartFound}
-use Rattle.lines.specs.declared.FieldAt.{FieldAt}
 use Rattle.lines.specs.declared.FieldAt.the-variants.{Found, Bad}
+use Rattle.lines.specs.declared.named.Named.{Named}
 use Rattle.lines.specs.declared.Slot.{Slot}
 use Rattle.lines.specs.declared.header.Ended.{Ended}
 use Rattle.lines.proofs.Values.{never, crlf-room}
 use Rattle.lines.proofs.Starts.{StartRead, start-read}
 use Rattle.lines.proofs.Fields.{FieldRead, field-bad, field-read, field-fits}
+use Rattle.lines.proofs.NamedFields.{NameRead, name-read, unnamed-field, named-line, endless-field, found-field}
 use Rattle.lines.proofs.Packs.{store-next}
 
 -- the message whose fields from place at on are these, with number fields before them, of which done are listed
@@ -166,7 +168,7 @@ module _ (m : List ℕ) (method uri number at count : ℕ) (ns : List ℕ) (h : 
           let w : length m - length (drop 2 (drop at m)) ≡ k = omega (arith, length-drop 2 (drop at m), length-drop at m) in
           sym (at-empty ∙ rw (le-leb (number + 0) 96 (omega arith), w, append-nil (h .done), ← h .held, ← h .counted))
 
-      pub closes : {k : ℕ} → k ≡ at + 2 → {x : Ended} → x ≡ closedEnd number k count → settled method uri x ns ≡ index m
+      closes : {k : ℕ} → k ≡ at + 2 → {x : Ended} → x ≡ closedEnd number k count → settled method uri x ns ≡ index m
       unfolding closedEnd
       closes {k} z {x} y = go (leb number 96) refl
         where
@@ -174,38 +176,57 @@ module _ (m : List ℕ) (method uri number at count : ℕ) (ns : List ℕ) (h : 
           go true e = rw (y, e) (ends (leb-true number 96 e) z)
           go false e = many (leb-false number 96 e) (y ∙ rw e)
 
-    module _ (n : b ≡ false) {r : FieldAt} (hr : r ≡ fieldAt m at) where
-      pub bad : r ≡ Bad → {x : Ended} → x ≡ refusedEnd 4 → settled method uri x ns ≡ index m
-      unfolding settled
-      bad q z = rw z (sym (h .same ∙ rw (header-bad (drop at m) (sym hb ∙ n) (field-bad m at hr q))))
+    bad : b ≡ false → Bad ≡ fieldAt m at → {x : Ended} → x ≡ refusedEnd 4 → settled method uri x ns ≡ index m
+    unfolding settled
+    bad n q z = rw z (sym (h .same ∙ rw (header-bad (drop at m) (sym hb ∙ n) (field-bad m at refl (sym q)))))
 
-      module _ {x v e : ℕ} {d : Bool} (q : r ≡ Found x v e d) where
+  module _ {n : Named} (hn : n ≡ namedAt m at) where
+    -- no name stands there
+    pub unnamed-ends : n .value ≤ at → {x : Ended} → x ≡ cond (startsCRLF (drop at m)) (closedEnd number (at + 2) count) (refusedEnd 4)
+        → settled method uri x ns ≡ index m
+    unnamed-ends l {x} z = go (startsCRLF (drop at m)) refl
+      where
+        go : (t : Bool) → startsCRLF (drop at m) ≡ t → settled method uri x ns ≡ index m
+        go true e = closes refl e refl (z ∙ rw e)
+        go false e = bad refl e (unnamed-field m at hn l) (z ∙ rw e)
+
+    module _ (g : at < n .value) {e : ℕ} (he : e ≡ valueEnd m (n .value)) where
+      name : NameRead m at n
+      name = name-read m at hn g
+
+      pub endless-ends : length m ≤ e → {x : Ended} → x ≡ refusedEnd 4 → settled method uri x ns ≡ index m
+      endless-ends l = bad refl (named-line m at name) (endless-field m at name he l)
+
+      module _ (f : e < length m) {d : Bool} (hd : d ≡ not (eqb e (n .value + run isValue (drop (n .value) m)))) where
+        abbrev x : ℕ
+        x = name .name-end
+
+        abbrev v : ℕ
+        v = n .value
+
+        is-found : Found x v e d ≡ fieldAt m at
+        is-found = found-field m at name he f hd
+
         found : FieldRead m at x v e d
-        found = field-read m at hr q
+        found = field-read m at is-found refl
 
-        pub name-after : at ≤ x
-        name-after = omega (arith, field-fits m at hr q)
-
-        pub value-after : x ≤ v
-        value-after = omega (arith, field-fits m at hr q)
+        fits : (at < x) × (x < v) × (v ≤ e) × (e + 2 ≤ length m)
+        fits = field-fits m at is-found refl
 
         pub end-after : v ≤ e
-        end-after = omega (arith, field-fits m at hr q)
-
-        pub end-within : e ≤ length m
-        end-within = omega (arith, field-fits m at hr q)
+        end-after = omega (arith, fits)
 
         pub next-small : length m ≤ 8192 → {k : ℕ} → k ≡ e + 2 → k < 2 ^ 64
-        next-small l z = omega (arith, field-fits m at hr q)
+        next-small l z = omega (arith, fits)
 
         pub next-within : {k : ℕ} → k ≡ e + 2 → k ≤ length m
-        next-within z = omega (arith, field-fits m at hr q)
+        next-within z = omega (arith, fits)
 
         pub next-less : {k : ℕ} → k ≡ e + 2 → length m - k < length m - at
-        next-less z = omega (arith, field-fits m at hr q)
+        next-less z = omega (arith, fits)
 
         pub next-few : number ≤ at → {j k : ℕ} → j ≡ number + 1 → k ≡ e + 2 → j ≤ k
-        next-few l y z = omega (arith, field-fits m at hr q)
+        next-few l y z = omega (arith, fits)
 
         value-long : e - v ≡ found .parts .value
         value-long = omega (arith, found)
@@ -225,20 +246,21 @@ module _ (m : List ℕ) (method uri number at count : ℕ) (ns : List ℕ) (h : 
         value-at : at + length (the .name) + length (the .gap) + 1 ≡ v
         value-at = omega (arith, found, ap (λ (y : Shape). y .name) (here .sizes), ap (λ (y : Shape). y .gap) (here .sizes))
 
-        slot-is : listedSlot (numberOf (take (x - at) (drop at m))) v (take (e - v) (drop v m)) ≡ cond (eqb (numberOf (the .name)) 0) noSlot (slotOf at the)
+        slot-is : listedSlot (n .number) v (take (e - v) (drop v m)) ≡ cond (eqb (numberOf (the .name)) 0) noSlot (slotOf at the)
         unfolding listedSlot slotFor slotOf valueSpan
         slot-is =
             let a : x - at ≡ found .parts .name = omega (arith, found) in
             let b : at + (found .parts .name + found .parts .gap + 1) ≡ v = omega (arith, found) in
-            rw (value-at, a, value-long, drop-drop (found .parts .name + found .parts .gap + 1) at m, b)
+            ap (λ (k : ℕ). listedSlot k v (take (e - v) (drop v m))) (name .number-is)
+            ∙ rw (value-at, a, value-long, drop-drop (found .parts .name + found .parts .gap + 1) at m, b)
 
         header-is : {k : ℕ} → k ≡ e + 2 → header 0 (drop at m) ≡ withField the (header 0 (drop k m))
         header-is {k} z =
             let y : at + size (found .parts) ≡ k = omega (arith, found) in
-            header-next (drop at m) (found .parts) (sym hb ∙ n) (found .reads) ∙ rw (drop-drop (size (found .parts)) at m, y)
+            header-next (drop at m) (found .parts) (named-line m at name) (found .reads) ∙ rw (drop-drop (size (found .parts)) at m, y)
 
-        module _ {s : Slot} (hs : s ≡ listedSlot (numberOf (take (x - at) (drop at m))) v (take (e - v) (drop v m)))
-            {c : ℕ} (hc : c ≡ cond (keeps count s) (count + 1) count) {ns′ : List ℕ} (hn : ns′ ≡ cond (keeps count s) (stored ns count s) ns)
+        module _ {s : Slot} (hs : s ≡ listedSlot (n .number) v (take (e - v) (drop v m)))
+            {c : ℕ} (hc : c ≡ cond (keeps count s) (count + 1) count) {ns′ : List ℕ} (hm : ns′ ≡ cond (keeps count s) (stored ns count s) ns)
             {j : ℕ} (hj : j ≡ number + 1) {k : ℕ} (hk : k ≡ e + 2) where
           from : index m ≡ indexFrom m method uri (h .done) number at (withField the (header 0 (drop k m)))
           from = h .same ∙ ap (indexFrom m method uri (h .done) number at) (header-is hk)
@@ -252,7 +274,7 @@ module _ (m : List ℕ) (method uri number at count : ℕ) (ns : List ℕ) (h : 
               let cs : c ≡ count = hc ∙ rw y in
               record {
                 done = h .done;
-                held = hn ∙ rw y (h .held);
+                held = hm ∙ rw y (h .held);
                 counted = cs ∙ h .counted;
                 listed = omega (arith, h .listed);
                 same = from ∙ w ∙ rw (bytes-long hk, hj);
@@ -263,7 +285,7 @@ module _ (m : List ℕ) (method uri number at count : ℕ) (ns : List ℕ) (h : 
               let cs : c ≡ count + 1 = hc ∙ rw y in
               record {
                 done = h .done ++ slotOf at the ∷ [];
-                held = hn ∙ rw y (stored-next ns count s (h .done) (slotOf at the) (h .held) (h .counted) w l);
+                held = hm ∙ rw y (stored-next ns count s (h .done) (slotOf at the) (h .held) (h .counted) w l);
                 counted = omega (arith, length-append (h .done) (slotOf at the ∷ []), h .counted);
                 listed = omega (arith, h .listed);
                 same = from ∙ step-kept m method uri (h .done) number at the z (header 0 (drop k m)) ∙ rw (bytes-long hk, hj);

@@ -128,11 +128,11 @@ one-byte [] h = absurd (omega arith)
 one-byte (b ∷ []) h = refl
 one-byte (b ∷ c ∷ n) h = absurd (omega arith)
 
-pub letter : (a b k : ℕ) (n : List ℕ) → k ≡ numberOf (a ∷ []) → k ≡ numberOf (b ∷ []) → length n ≡ 1 → OneOf (a ∷ b ∷ []) (getD n 0 0) → k ≡ numberOf n
-letter a b k n p q h e = ⊎-elim (λ z. p ∙ at a z) (λ z. q ∙ at b z) e
+pub letter : (a b k c : ℕ) → k ≡ numberOf (a ∷ []) → k ≡ numberOf (b ∷ []) → OneOf (a ∷ b ∷ []) c → k ≡ numberOf (c ∷ [])
+letter a b k c p q e = ⊎-elim (λ z. p ∙ at a z) (λ z. q ∙ at b z) e
   where
-    at : (x : ℕ) → getD n 0 0 ≡ x → numberOf (x ∷ []) ≡ numberOf n
-    at x z = ap numberOf (ap (λ (y : ℕ). y ∷ []) (sym z) ∙ sym (one-byte n h))
+    at : (x : ℕ) → c ≡ x → numberOf (x ∷ []) ≡ numberOf (c ∷ [])
+    at x z = ap (λ (y : ℕ). numberOf (y ∷ [])) (sym z)
 
 other-letter : (x b : ℕ) → (OneOf ((x - 32) ∷ x ∷ []) b → ⊥) → eqb x (lower b) ≡ false
 unfolding lower
@@ -147,9 +147,9 @@ abbrev pub OtherLetter : List ℕ → ℕ → Type 0
 OtherLetter [] b = Unit {0}
 OtherLetter (x ∷ xs) b = OtherLetter xs b × (OneOf ((x - 32) ∷ x ∷ []) b → ⊥)
 
-no-byte : (b : ℕ) → OtherLetter (107 ∷ 99 ∷ 108 ∷ 109 ∷ 105 ∷ 116 ∷ 102 ∷ 118 ∷ []) b → 0 ≡ numberOf (b ∷ [])
+pub no-letter : (b : ℕ) → OtherLetter (107 ∷ 99 ∷ 108 ∷ 109 ∷ 105 ∷ 116 ∷ 102 ∷ 118 ∷ []) b → 0 ≡ numberOf (b ∷ [])
 unfolding pick text rows spellings ofLength sameText
-no-byte b o =
+no-letter b o =
     by-length 1 (b ∷ []) refl
     (rw (
       other-letter 107 b (o .1),
@@ -162,8 +162,8 @@ no-byte b o =
       other-letter 118 b (o .0 .0 .0 .0 .0 .0 .0 .1),
     ))
 
-pub no-letter : (n : List ℕ) → length n ≡ 1 → OtherLetter (107 ∷ 99 ∷ 108 ∷ 109 ∷ 105 ∷ 116 ∷ 102 ∷ 118 ∷ []) (getD n 0 0) → 0 ≡ numberOf n
-no-letter n h o = no-byte (getD n 0 0) o ∙ ap numberOf (sym (one-byte n h))
+pub one-letter : (n : List ℕ) → length n ≡ 1 → {k : ℕ} → k ≡ numberOf (getD n 0 0 ∷ []) → k ≡ numberOf n
+one-letter n h e = e ∙ ap numberOf (sym (one-byte n h))
 
 -- ---- the numbers are those of the rows
 

@@ -3,15 +3,15 @@ use mathlib.Core.Path.{_≡_, refl, sym, ap, _∙_}
 use mathlib.Core.Bool.{Bool, true, false, not, cond, _&&_, and-eq-true-iff}
 use mathlib.Core.List.{List}
 use mathlib.Core.Option.{Option, none, some}
-use Prim.Native.Nat.{ℕ, _+_, _≤_, _<_}
+use Prim.Native.Nat.{ℕ, _+_, _-_, _≤_, _<_}
 use native.Mathlib.Omega.{arith}
 use lib.Dec.{leb}
-use lib.ListN.{length, take, drop, length-take, length-drop}
+use lib.ListN.{length, take, drop, getD, drop-of-length-le, length-take, length-drop}
 use lib.Seq.{length-take-le, drop-drop}
-use borrow.Author.Tests.{leb-true, le-leb, lt-leb, not-true, not-false}
-use Rattle.octets.specs.Classes.{text, within, bit, isToken, isVisible}
+use borrow.Author.Tests.{ne-eqb, leb-true, le-leb, lt-leb, not-true, not-false}
+use Rattle.octets.specs.Classes.{text, within, isToken, isVisible}
 use Rattle.octets.specs.Scans.{run, starts, sameText}
-use Rattle.octets.proofs.Classes.{bit-no, bit-yes}
+use Rattle.octets.proofs.Places.{drop1}
 use Rattle.octets.proofs.Runs.{run-le}
 use Rattle.octets.proofs.Texts.{sameText-length}
 use Rattle.sip.specs.Lines.{isVersion, Start, start}
@@ -19,34 +19,67 @@ use Rattle.lines.specs.Places.{startPlaces, startAt}
 use Rattle.lines.specs.Sizes.{uriSize}
 use Rattle.lines.specs.declared.StartAt.{StartAt}
 use Rattle.lines.specs.declared.StartAt.the-variants.{Found, Bad}
+use Rattle.lines.proofs.Quads.{Stands}
+
+-- ---- the version
+
+version-fits : (t : List ℕ) → isVersion (take 10 t) ≡ true → 10 ≤ length t
+unfolding isVersion text
+version-fits t e = omega (arith, sameText-length (text " SIP/2.0\r\n") (take 10 t) e, length-take 10 t)
+
+module _ (s : List ℕ) (at : ℕ) where
+  pub too-short : length s - at < 10 → false ≡ isVersion (take 10 (drop at s))
+  too-short h = go (isVersion (take 10 (drop at s))) refl
+    where
+      go : (t : Bool) → isVersion (take 10 (drop at s)) ≡ t → false ≡ t
+      go true e = absurd (omega (arith, version-fits (drop at s) e, length-drop at s))
+      go false e = refl
+
+  capitals : Stands s at 10 (text " SIP/2.0\r\n") → isVersion (take 10 (drop at s)) ≡ true
+  unfolding isVersion sameText text
+  capitals e = rw (e .stands)
+
+  abbrev version : Bool
+  version = isVersion (take 10 (drop at s))
+
+  pub all-words : (b : Bool) → (b ≡ true → Stands s at 10 (text " SIP/2.0\r\n")) → version ≡ cond b true version
+  all-words true f = capitals (f refl)
+  all-words false f = refl
+
+  pub told-version : (b : Bool) → version ≡ cond b true version → b ≡ true → true ≡ version
+  told-version b e q = sym (rw q at e)
+
+  pub compared-version : {e : ℕ} → e ≡ at + 10 → {g : Bool} → g ≡ sameText (text " SIP/2.0\r\n") (take (e - at) (drop at s)) → g ≡ version
+  unfolding isVersion
+  compared-version {e} z q = let y : e - at ≡ 10 = omega arith in q ∙ rw y
 
 -- ---- the Request-URI
 
-module _ (s : List ℕ) (u : ℕ) (hu : u ≡ 0 + run isVisible (drop 0 s)) where
-  u-is : run isVisible s ≡ u
+-- it ends at e
+module _ (s : List ℕ) (at : ℕ) {e : ℕ} (he : e ≡ at + run isVisible (drop at s)) where
+  u-is : run isVisible (drop at s) ≡ e - at
   u-is = omega arith
 
-  pub uri-short : u < 1 → 0 ≡ uriSize s
+  pub uri-short : e ≤ at → 0 ≡ uriSize (drop at s)
   unfolding uriSize
-  uri-short h = rw (u-is, lt-leb 1 u h)
+  uri-short h = rw (u-is, lt-leb 1 (e - at) (omega arith))
 
-  pub uri-long : 256 < u → 0 ≡ uriSize s
-  unfolding uriSize
-  uri-long h = let l : 1 ≤ u = omega arith in rw (u-is, le-leb 1 u l, lt-leb u 256 h)
+  module _ (a : at < e) {u : ℕ} (hu : u ≡ e - at) where
+    pub uri-long : 256 < u → 0 ≡ uriSize (drop at s)
+    unfolding uriSize
+    uri-long h = let l : 1 ≤ u = omega arith in rw (u-is, ← hu, le-leb 1 u l, lt-leb u 256 h)
 
-  module _ {t : List ℕ} (ht : t ≡ drop u s) {v : List ℕ} (hv : v ≡ take 10 t) {g : Bool} (hg : g ≡ sameText (text " SIP/2.0\r\n") v) where
-    version-is : isVersion (take 10 (drop u s)) ≡ g
-    unfolding isVersion
-    version-is = sym (hg ∙ ap (sameText (text " SIP/2.0\r\n")) (hv ∙ ap (take 10) ht))
+    module _ (b : u ≤ 256) {g : Bool} (hg : g ≡ isVersion (take 10 (drop e s))) where
+      version-is : isVersion (take 10 (drop u (drop at s))) ≡ g
+      version-is = let z : at + u ≡ e = omega arith in rw (drop-drop u at s, z) (sym hg)
 
-    module _ (a : 1 ≤ u) (b : u ≤ 256) where
-      pub no-version : not g ≡ true → 0 ≡ uriSize s
+      pub no-version : not g ≡ true → 0 ≡ uriSize (drop at s)
       unfolding uriSize
-      no-version q = rw (u-is, version-is, not-true g q, le-leb 1 u a, le-leb u 256 b)
+      no-version q = rw (u-is, ← hu, version-is, not-true g q, le-leb 1 u (omega arith), le-leb u 256 b)
 
-      pub a-version : not g ≡ false → u ≡ uriSize s
+      pub a-version : not g ≡ false → u ≡ uriSize (drop at s)
       unfolding uriSize
-      a-version q = rw (u-is, version-is, not-false g q, le-leb 1 u a, le-leb u 256 b)
+      a-version q = rw (u-is, ← hu, version-is, not-false g q, le-leb 1 u (omega arith), le-leb u 256 b)
 
 -- ---- the whole line
 
@@ -86,32 +119,36 @@ module _ (s : List ℕ) (m : ℕ) (hm : m ≡ 0 + run isToken (drop 0 s)) where
   unfolding startAt start
   method-long h = let l : 1 ≤ m = omega arith in rw (m-is, le-leb 1 m l, lt-leb m 32 h)
 
-  module _ (a : 1 ≤ m) (b : m ≤ 32) {t : List ℕ} (ht : t ≡ drop m s) {x : ℕ} (hx : x ≡ bit (starts 32 t)) where
-    pub no-space : x < 1 → Bad ≡ startAt s
+  module _ (a : 1 ≤ m) (b : m ≤ 32) where
+    no-space-at : starts 32 (drop m s) ≡ false → Bad ≡ startAt s
     unfolding startAt start
-    no-space h =
-        let q : starts 32 (drop m s) ≡ false = ap (starts 32) (sym ht) ∙ bit-no (starts 32 t) hx h in
-        rw (m-is, le-leb 1 m a, le-leb m 32 b, q)
+    no-space-at q = rw (m-is, le-leb 1 m a, le-leb m 32 b, q)
 
-    module _ (h : 1 ≤ x) {n : ℕ} (hn : n ≡ m + 1) {w : List ℕ} (hw : w ≡ drop n s) {u : ℕ} (hu : u ≡ uriSize w) where
+    pub method-last : length s ≤ m → Bad ≡ startAt s
+    unfolding starts
+    method-last h = no-space-at (rw (drop-of-length-le s h))
+
+    pub no-space : m < length s → (getD s m 0 ≡ 32 → ⊥) → Bad ≡ startAt s
+    unfolding starts
+    no-space h n = no-space-at (rw (drop1 s m h, ne-eqb (getD s m 0) 32 n))
+
+    module _ (h : m < length s) (q : getD s m 0 ≡ 32) {n : ℕ} (hn : n ≡ m + 1) {u : ℕ} (hu : u ≡ uriSize (drop n s)) where
       space : starts 32 (drop m s) ≡ true
-      space = ap (starts 32) (sym ht) ∙ bit-yes (starts 32 t) hx h
+      unfolding starts
+      space = rw (drop1 s m h, q)
 
-      w-is : w ≡ drop (m + 1) s
-      w-is = hw ∙ ap (λ (i : ℕ). drop i s) hn
-
-      good-is : goodUri w ≡ (within 1 256 (run isVisible (drop (m + 1) s)) && isVersion (take 10 (drop (m + 1 + run isVisible (drop (m + 1) s)) s)))
-      good-is = rw (w-is, drop-drop (run isVisible (drop (m + 1) s)) (m + 1) s)
+      good-is : goodUri (drop n s) ≡ (within 1 256 (run isVisible (drop (m + 1) s)) && isVersion (take 10 (drop (m + 1 + run isVisible (drop (m + 1) s)) s)))
+      good-is = rw (hn, drop-drop (run isVisible (drop (m + 1) s)) (m + 1) s)
 
       pub no-uri : u < 1 → Bad ≡ startAt s
       unfolding startAt start
-      no-uri l = rw (m-is, le-leb 1 m a, le-leb m 32 b, space, ← good-is, uri-no w (omega arith))
+      no-uri l = rw (m-is, le-leb 1 m a, le-leb m 32 b, space, ← good-is, uri-no (drop n s) (omega arith))
 
       pub a-start : 1 ≤ u → Found m u ≡ startAt s
       unfolding startAt start
       a-start l =
-          let y = uri-yes w (omega arith) in
-          let c : run isVisible (drop (m + 1) s) ≡ u = ap (run isVisible) (sym w-is) ∙ y .1 ∙ sym hu in
+          let y = uri-yes (drop n s) (omega arith) in
+          let c : run isVisible (drop (m + 1) s) ≡ u = ap (λ (i : ℕ). run isVisible (drop i s)) (sym hn) ∙ y .1 ∙ sym hu in
           let d : length (take m s) ≡ m = length-take-le m s (omega (arith, run-le isToken s)) in
           let f : length (take u (drop (m + 1) s)) ≡ u = length-take-le u (drop (m + 1) s) (omega (arith, run-le isVisible (drop (m + 1) s))) in
           rw (m-is, le-leb 1 m a, le-leb m 32 b, space, ← good-is, y .0, c, d, f)
@@ -141,12 +178,8 @@ start-by : (s : List ℕ) → start s ≡ cond (goodStart s) (some (startOf s)) 
 unfolding start
 start-by s = refl
 
-within-true : (lo hi n : ℕ) → within lo hi n ≡ true → (lo ≤ n) × (n ≤ hi)
+pub within-true : (lo hi n : ℕ) → within lo hi n ≡ true → (lo ≤ n) × (n ≤ hi)
 within-true lo hi n e = let i = and-eq-true-iff (leb lo n) (leb n hi) .0 e in (leb-true lo n (i .0), leb-true n hi (i .1))
-
-version-fits : (t : List ℕ) → isVersion (take 10 t) ≡ true → 10 ≤ length t
-unfolding isVersion text
-version-fits t e = omega (arith, sameText-length (text " SIP/2.0\r\n") (take 10 t) e, length-take 10 t)
 
 good-read : (s : List ℕ) → goodStart s ≡ true → {m u : ℕ} → m ≡ length (take (methodSize s) s) → u ≡ length (take (uriRun s) (drop (methodSize s + 1) s)) → StartRead s m u
 good-read s e {m} {u} a b =

@@ -2,14 +2,16 @@
 use mathlib.Core.Path.{_≡_, refl, sym, ap, _∙_}
 use mathlib.Core.Bool.{Bool, true, false, not, cond}
 use mathlib.Core.List.{List, [], _∷_, _++_}
-use Prim.Native.Nat.{ℕ, suc, _+_, _-_, _≤_, _<_}
+use Prim.Native.Nat.{ℕ, suc, _+_, _-_, _*_, _≤_, _<_}
 use native.Mathlib.Omega.{arith}
-use lib.ListN.{length, take, drop, getD}
-use lib.Seq.{take-length, take-suc, length-take-le}
-use borrow.Author.Tests.{not-true, not-false}
-use Rattle.octets.specs.Classes.{isGap}
+use lib.Dec.{ltb}
+use lib.ListN.{length, take, drop, getD, length-drop}
+use lib.Seq.{take-length, take-suc, length-take-le, getD-drop}
+use borrow.Author.Tests.{not-true, not-false, ne-eqb, ltb-true}
+use Rattle.octets.specs.Classes.{bit, isGap}
 use Rattle.octets.specs.Scans.{run}
 use Rattle.octets.proofs.Places.{drop-slice}
+use Rattle.octets.proofs.Runs.{run-at, run-stop}
 use Rattle.sip.specs.Lines.{unlessLast, trimEnd, trim}
 use Rattle.sip.specs.Readings.{noSpan}
 use Rattle.sip.specs.Values.{isEmpty}
@@ -81,3 +83,34 @@ module _ (s : List ℕ) {n : ℕ} (end : n ≡ 0 + run isGap (drop 0 s)) {l : �
       go : (v : List ℕ) → 1 ≤ length v → record { start = run isGap s; len = length v } ≡ cond (isEmpty v) noSpan (record { start = run isGap s; len = length v })
       go [] z = absurd (omega arith)
       go (b ∷ v) z = refl
+
+-- ---- one space stands before it, and no gap at its ends
+
+not-gap : (b : ℕ) → 32 < b → isGap b ≡ false
+unfolding isGap
+not-gap b h = rw (ne-eqb b 32 (λ z. omega arith), ne-eqb b 9 (λ z. omega arith), ne-eqb b 13 (λ z. omega arith), ne-eqb b 10 (λ z. omega arith))
+
+module _ (s : List ℕ) where
+  plain-part : 2 ≤ length s → getD s 0 0 ≡ 32 → 32 < getD s 1 0 → 32 < getD s (length s - 1) 0 → valuePart s ≡ record { start = 1; len = length s - 1 }
+  unfolding isGap
+  plain-part h e f g =
+      let t : List ℕ = drop 1 s in
+      let long : length t ≡ length s - 1 = length-drop 1 s in
+      let last : getD t (length t - 1) 0 ≡ getD s (length s - 1) 0 = let z : 1 + (length t - 1) ≡ length s - 1 = omega arith in getD-drop 1 s (length t - 1) 0 ∙ rw z in
+      let before : 1 ≡ 0 + run isGap s = omega (arith, run-at isGap s 0 (omega arith) (rw e), run-stop isGap s 1 (omega arith) (not-gap (getD s 1 0) f)) in
+      let none : not (isGap (getD t (length t - 1) 0)) ≡ true = rw (last, not-gap (getD s (length s - 1) 0) g) in
+      let stays : length t ≡ length (trimEnd isGap t) = no-gap t (all-left t) (omega arith) (omega arith) refl refl none in
+      sym (a-part s before (rw (drop-slice s 1) (omega arith)) (omega arith))
+
+  pub plain-test : 2 ≤ length s → getD s 0 0 ≡ 32 → 32 < getD s 1 0
+      → valuePart s ≡ cond (ltb 32 (getD s (length s - 1) 0)) (record { start = 1; len = length s - 1 }) (valuePart s)
+  plain-test h e f = go (ltb 32 (getD s (length s - 1) 0)) refl
+    where
+      go : (t : Bool) → ltb 32 (getD s (length s - 1) 0) ≡ t → valuePart s ≡ cond t (record { start = 1; len = length s - 1 }) (valuePart s)
+      go true q = plain-part h e f (ltb-true 32 (getD s (length s - 1) 0) q)
+      go false q = refl
+
+-- the bytes of what passes a test that asks for two
+pub two-bytes : (n : ℕ) (t : Bool) → 2 ≤ n → 2 * bit t ≤ n
+two-bytes n true h = omega arith
+two-bytes n false h = omega arith

@@ -3,14 +3,15 @@ use mathlib.Core.Path.{_≡_, refl, sym, ap, _∙_}
 use mathlib.Core.Bool.{Bool, true, false, not, cond, _&&_, and-eq-true-iff}
 use mathlib.Core.List.{List, [], _∷_}
 use mathlib.Core.Option.{Option, none, some}
-use Prim.Native.Nat.{ℕ, zero, suc, _+_, _-_, _≤_, _<_}
+use Prim.Native.Nat.{ℕ, zero, suc, _+_, _*_, _-_, _≤_, _<_}
 use native.Mathlib.Omega.{arith}
-use lib.Dec.{eqb}
-use lib.ListN.{length, drop, length-drop}
+use lib.Dec.{eqb, ltb}
+use lib.ListN.{length, drop, getD, length-drop}
 use lib.Seq.{drop-drop}
-use borrow.Author.Tests.{eqb-true, eqb-false, eq-eqb, ne-eqb, not-true, not-false}
+use borrow.Author.Tests.{eqb-true, eqb-false, eq-eqb, ne-eqb, ltb-true, not-true, not-false}
 use Rattle.octets.specs.Classes.{isBlank, isBreak, isValue}
 use Rattle.octets.specs.Scans.{run, any}
+use Rattle.octets.proofs.Places.{drop1, drop2}
 use Rattle.octets.proofs.Runs.{run-nil, run-yes, run-no, run-after}
 use Rattle.sip.specs.Lines.{startsCRLF, startsBlank, oneLonger, valueSize}
 use Rattle.lines.specs.Places.{breaks}
@@ -135,7 +136,7 @@ value-fits zero (b ∷ s) {n} e =
 
 -- ---- a line break stands in a value exactly if more than its first line belongs to it
 
-crlf-first : (b : ℕ) (s : List ℕ) → startsCRLF (b ∷ s) ≡ true → b ≡ 13
+pub crlf-first : (b : ℕ) (s : List ℕ) → startsCRLF (b ∷ s) ≡ true → b ≡ 13
 unfolding startsCRLF
 crlf-first b [] e = never e
 crlf-first b (c ∷ s) e = eqb-true b 13 (and-eq-true-iff (eqb b 13) (eqb c 10) .0 e .0)
@@ -185,14 +186,48 @@ module _ (s : List ℕ) where
     rest-is : drop (run isValue (drop at s)) (drop at s) ≡ drop line s
     rest-is = drop-drop (run isValue (drop at s)) at s ∙ ap (λ (i : ℕ). drop i s) (sym h)
 
-    pub line-end : valueEnd s at ≡ valueEnd s line
+    line-end : valueEnd s at ≡ valueEnd s line
     unfolding valueEnd
     line-end =
         ap (endAt (length s) at) (past-line (drop at s)) ∙ end-plus at (run isValue (drop at s)) (valueSize 0 (drop (run isValue (drop at s)) (drop at s)))
         ∙ rw (rest-is, ← h)
 
+    pub end-after-line : {e : ℕ} → e ≡ valueEnd s line → e ≡ valueEnd s at
+    end-after-line q = q ∙ sym line-end
+
+    pub folded-line : (e : ℕ) → not (eqb e line) ≡ not (eqb e (at + run isValue (drop at s)))
+    folded-line e = rw h
+
     pub line-over : run isValue (drop line s) ≡ 0
     line-over = ap (run isValue) (sym rest-is) ∙ run-after isValue (drop at s)
+
+  -- a CRLF that no blank follows stands at the place
+
+  module _ (at : ℕ) (h : 3 ≤ length s - at) where
+    crlf-at : getD s at 0 ≡ 13 → getD s (at + 1) 0 ≡ 10 → startsCRLF (drop at s) ≡ true
+    unfolding startsCRLF
+    crlf-at a b = rw (drop2 s at (omega arith), a, b)
+
+    blank-at : 32 < getD s (at + 2) 0 → startsBlank (drop (at + 2) s) ≡ false
+    unfolding startsBlank isBlank
+    blank-at k = rw (drop1 s (at + 2) (omega arith), ne-eqb (getD s (at + 2) 0) 32 (λ z. omega arith), ne-eqb (getD s (at + 2) 0) 9 (λ z. omega arith))
+
+    last-line : getD s at 0 ≡ 13 → getD s (at + 1) 0 ≡ 10 → 32 < getD s (at + 2) 0 → valueEnd s at ≡ at
+    unfolding valueEnd
+    last-line a b k =
+        let z : at + 0 ≡ at = omega arith in
+        rw (end-size (drop at s) (rw (crlf-at a b, drop-drop 2 at s, blank-at k)) (crlf-at a b), z)
+
+    pub last-test : {x y : ℕ} → x ≡ getD s at 0 + 256 * getD s (at + 1) 0 → getD s at 0 < 256 → getD s (at + 1) 0 < 256 → y ≡ 13 + 256 * 10 → x ≡ y
+        → valueEnd s at ≡ cond (ltb 32 (getD s (at + 2) 0)) at (valueEnd s at)
+    last-test hx a b hy e = go (ltb 32 (getD s (at + 2) 0)) refl
+      where
+        go : (t : Bool) → ltb 32 (getD s (at + 2) 0) ≡ t → valueEnd s at ≡ cond t at (valueEnd s at)
+        go true q = last-line (omega arith) (omega arith) (ltb-true 32 (getD s (at + 2) 0) q)
+        go false q = refl
+
+  pub ends-here : (at : ℕ) (r : Bool) → valueEnd s at ≡ cond r at (valueEnd s at) → r ≡ true → at ≡ valueEnd s at
+  ends-here at r e q = sym (rw q at e)
 
   -- the value is read up to `end`
   module _ (line end : ℕ) (e : valueEnd s line ≡ valueEnd s end) {c : Bool} (hc : c ≡ startsCRLF (drop end s)) where

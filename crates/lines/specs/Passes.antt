@@ -1,7 +1,8 @@
 -- What the passes inside this crate leave: over the fields of a message, and over its slots.
+use mathlib.Core.Path.{_≡_}
 use mathlib.Core.Bool.{Bool, not, cond, _&&_}
 use mathlib.Core.List.{List, [], _∷_, _++_}
-use Prim.Native.Nat.{ℕ, zero, suc, _+_, _*_, _<_}
+use Prim.Native.Nat.{ℕ, zero, suc, _+_, _*_, _≤_, _<_}
 use lib.Dec.{leb, eqb, ltb}
 use lib.ListN.{length, set}
 use Rattle.octets.specs.Classes.{bit, isBreak, isGap}
@@ -10,12 +11,20 @@ use Rattle.sip.specs.Lines.{trim}
 use Rattle.sip.specs.Readings.{noSpan, place}
 use Rattle.sip.specs.Values.{isEmpty}
 use Rattle.sip.specs.declared.Span.{Span}
+use Rattle.lines.specs.Places.{namedAt}
 use Rattle.lines.specs.Index.{slotAt, Indexed, unreadIndex, noSlot}
 use Rattle.lines.specs.declared.Slot.{Slot}
+use Rattle.lines.specs.declared.named.Named.{Named}
 use Rattle.lines.specs.declared.header.Ended.{Ended}
 use Rattle.lines.specs.declared.slots.Counted.{Counted}
 
 -- ---- over the fields
+
+-- a look for a name at a place tells the name there, or nothing, with number 0
+pub record Told (s : List ℕ) (at : ℕ) (r : Named) : Type 0 where
+  pub told-named : namedAt s at ≡ cond (eqb (r .number) 0) (namedAt s at) r
+  pub told-number : r .number ≤ 18
+  pub told-value : r .value ≤ length s
 
 -- the slot of a field of that number whose value v stands at place at of the message
 unfoldable pub slotFor : ℕ → ℕ → List ℕ → Slot

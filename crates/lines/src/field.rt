@@ -1,8 +1,11 @@
 // A field: name, spaces or tabs, colon, value, CRLF. Its parts are places of the one text, so that no slice is made for each of them.
 use crate::FieldAt;
 use crate::scan;
+use crate::words;
 ghost use mathlib.Core.Path.{_≡_};
+ghost use mathlib.Core.Bool.{not, cond};
 ghost use Prim.Native.Nat.{_+_, _≤_};
+ghost use lib.Dec.{eqb};
 ghost use lib.ListN.{length, drop};
 ghost use Rattle.octets.specs.Classes.{classTable, isValue};
 ghost use Rattle.octets.specs.Scans.{run};
@@ -40,11 +43,30 @@ fn is_blank(s: &[u8], at: usize) -> bool
     s[at] == b'\t'
 }
 
+// A CRLF stands there that no space or tab follows, so that the value ends. A control character behind it is left to a closer look.
+fn is_last_line(s: &[u8], line: usize) -> bool
+    requires { ⌜ line ≤ length (now s) ⌝ }
+    ensures { λ r. ⌜ valueEnd (now (s .entry)) line ≡ cond r line (valueEnd (now (s .entry)) line) ⌝ }
+{
+    if s.len() - line < 3 {
+        return false;
+    }
+    let lf = line + 1;
+    if words::pair(s[line], s[lf]) != words::pair(b'\r', b'\n') {
+        return false;
+    }
+    let next = line + 2;
+    b' ' < s[next]
+}
+
 // Where the value ends whose first line ends at `line`. At the end of the text where its shape is bad.
 fn value_end(table: &[u8; 256], s: &[u8], line: usize) -> usize
     requires { ⌜ (now table ≡ classTable) × (line ≤ length (now s)) × (run isValue (drop line (now s)) ≡ 0) ⌝ }
     ensures { λ r. ⌜ r ≡ valueEnd (now (s .entry)) line ⌝ }
 {
+    if is_last_line(s, line) {
+        return line;
+    }
     let mut end = line;
     while is_empty_line(s, end) {
         let after = end + 2;
@@ -73,7 +95,7 @@ fn blanks_and_colon(table: &[u8; 256], s: &[u8], at: usize) -> usize
 }
 
 // The same, with a look first at the place itself: most names have their colon right behind them.
-fn colon_end(table: &[u8; 256], s: &[u8], at: usize) -> usize
+pub(crate) fn colon_end(table: &[u8; 256], s: &[u8], at: usize) -> usize
     requires { ⌜ (now table ≡ classTable) × (at ≤ length (now s)) ⌝ }
     ensures { λ r. ⌜ (r ≡ at + colonSize (drop at (now (s .entry)))) × (r ≤ length (now (s .entry))) ⌝ }
 {
@@ -84,6 +106,25 @@ fn colon_end(table: &[u8; 256], s: &[u8], at: usize) -> usize
         return at + 1;
     }
     blanks_and_colon(table, s, at)
+}
+
+// Where a value ends, and whether it goes over several lines. It ends at the end of the text where its shape is bad.
+pub(crate) struct ValueAt {
+    pub end: usize,
+    pub folded: bool,
+}
+
+// The value at a place.
+pub(crate) fn value_at(table: &[u8; 256], s: &[u8], at: usize) -> ValueAt
+    requires { ⌜ (now table ≡ classTable) × (at ≤ length (now s)) ⌝ }
+    ensures { λ r. ⌜ (r .end ≡ valueEnd (now (s .entry)) at) × (r .folded ≡ not (eqb (r .end) (at + run isValue (drop at (now (s .entry)))))) ⌝ }
+{
+    let line = scan::line(table, s, at);
+    let end = value_end(table, s, line);
+    ValueAt {
+        end,
+        folded: end != line,
+    }
 }
 
 // The field at a place of a text, by the class table that is lent. Past the end nothing is named, so that no place needs a test.
@@ -99,8 +140,8 @@ pub(crate) fn read(table: &[u8; 256], s: &[u8], at: usize) -> FieldAt
     if value <= name {
         return FieldAt::Bad;
     }
-    let line = scan::values(table, s, value);
-    let end = value_end(table, s, line);
+    let found = value_at(table, s, value);
+    let end = found.end;
     if s.len() <= end {
         return FieldAt::Bad;
     }
@@ -108,6 +149,6 @@ pub(crate) fn read(table: &[u8; 256], s: &[u8], at: usize) -> FieldAt
         name,
         value,
         end,
-        folded: end != line,
+        folded: found.folded,
     }
 }

@@ -1,9 +1,9 @@
 // All lines of a message in one pass: reasons 2 to 5, or the listed fields.
-use crate::FieldAt;
 use crate::Message;
 use crate::Slot;
 use crate::StartAt;
 use crate::field;
+use crate::named;
 use crate::start;
 use crate::value;
 ghost use mathlib.Core.Path.{_≡_};
@@ -13,7 +13,7 @@ ghost use Prim.Native.Nat.{_+_, _-_, _≤_, _<_};
 ghost use lib.ListN.{length, take, drop};
 ghost use Rattle.octets.specs.Classes.{classTable, bit, isBreak};
 ghost use Rattle.octets.specs.Scans.{any};
-ghost use Rattle.sip.specs.Profile.{numberOf};
+ghost use Rattle.sip.specs.Lines.{startsCRLF};
 ghost use Rattle.lines.specs.Places.{startAt};
 ghost use Rattle.lines.specs.Index.{zeros, padded, unreadHead, index};
 ghost use Rattle.lines.specs.Passes.{slotFor, listedSlot, Small, stored, keeps, refusedEnd, closedEnd, settled};
@@ -47,8 +47,9 @@ pub(crate) fn unread(slots: &mut [u16; 384], reason: u64) -> Message
     }
 }
 
-// The slot of a field of that number whose value v stands at the place at. A value of one line is not looked at again for a line break.
-fn slot(number: usize, at: usize, v: &[u8], folded: bool) -> Slot
+// The slot of a field of that number whose value v stands at the place at, by the part of v without gaps at both ends. A value of one line
+// is not looked at again for a line break.
+fn trimmed_slot(number: usize, at: usize, v: &[u8], folded: bool) -> Slot
     requires { ⌜ (folded ≡ any isBreak (now v)) × (at + length (now v) ≤ 8192) ⌝ }
     ensures { λ r. ⌜ (r ≡ slotFor number at (now (v .entry))) × (r .number ≡ number) × (r .start + r .len ≤ 8192) ⌝ }
 {
@@ -82,12 +83,31 @@ fn slot(number: usize, at: usize, v: &[u8], folded: bool) -> Slot
     }
 }
 
-// The slot of the field between at and end, by where its name ends and its value starts. A field that is not listed has number 0.
-fn slot_of(s: &[u8], at: usize, name: usize, value: usize, end: usize, folded: bool) -> Slot
-    requires { ⌜ (at ≤ name) × (name ≤ value) × (value ≤ end) × (end ≤ length (now s)) × (length (now s) ≤ 8192) × (folded ≡ any isBreak (take (end - value) (drop value (now s)))) ⌝ }
-    ensures { λ r. ⌜ (r ≡ listedSlot (numberOf (take (name - at) (drop at (now (s .entry))))) value (take (end - value) (drop value (now (s .entry))))) × (r .number ≤ 18) × (r .start + r .len ≤ 8192) ⌝ }
+// The same, with a look first: most values stand on one line, after one space.
+fn slot(number: usize, at: usize, v: &[u8], folded: bool) -> Slot
+    requires { ⌜ (folded ≡ any isBreak (now v)) × (at + length (now v) ≤ 8192) ⌝ }
+    ensures { λ r. ⌜ (r ≡ slotFor number at (now (v .entry))) × (r .number ≡ number) × (r .start + r .len ≤ 8192) ⌝ }
 {
-    let number = crate::number_of(&s[at..name]);
+    if !folded {
+        if value::is_plain(v) {
+            let start = at + 1;
+            let len = v.len() - 1;
+            return Slot {
+                number,
+                start,
+                len,
+                folded: false,
+            };
+        }
+    }
+    trimmed_slot(number, at, v, folded)
+}
+
+// The slot of a field of that number whose value is between two places. A field that is not listed has number 0.
+fn slot_of(s: &[u8], number: usize, value: usize, end: usize, folded: bool) -> Slot
+    requires { ⌜ (number ≤ 18) × (value ≤ end) × (end ≤ length (now s)) × (length (now s) ≤ 8192) × (folded ≡ any isBreak (take (end - value) (drop value (now s)))) ⌝ }
+    ensures { λ r. ⌜ (r ≡ listedSlot number value (take (end - value) (drop value (now (s .entry))))) × (r .number ≤ 18) × (r .start + r .len ≤ 8192) ⌝ }
+{
     if number < 1 {
         return Slot {
             number: 0,
@@ -164,6 +184,18 @@ fn closed(number: usize, rest: usize, count: usize) -> Ended
     refused(5)
 }
 
+// No name stands at a place: an empty line ends the fields there, or their shape is bad.
+fn unnamed(s: &[u8], at: usize, number: usize, count: usize) -> Ended
+    requires { ⌜ at ≤ 8192 ⌝ }
+    ensures { λ r. ⌜ r ≡ cond (startsCRLF (drop at (now (s .entry)))) (closedEnd number (at + 2) count) (refusedEnd 4) ⌝ }
+{
+    if field::is_empty_line(s, at) {
+        let rest = at + 2;
+        return closed(number, rest, count);
+    }
+    refused(4)
+}
+
 // Reads the fields after a start line of these lengths. Past 96 of them it goes on without slots, since a bad shape comes first.
 fn fields(table: &[u8; 256], s: &[u8], slots: &mut [u16; 384], method: usize, uri: usize) -> Ended
     requires { ⌜ (now table ≡ classTable) × (length (now s) ≤ 8192) × (startAt (now s) ≡ Found method uri) × (method + uri + 11 ≤ length (now s)) × (now slots ≡ padded []) ⌝ }
@@ -173,20 +205,17 @@ fn fields(table: &[u8; 256], s: &[u8], slots: &mut [u16; 384], method: usize, ur
     let mut number: usize = 0;
     let mut at = method + uri + 11;
     while at < s.len() {
-        if field::is_empty_line(s, at) {
-            let rest = at + 2;
-            return closed(number, rest, count);
+        let n = named::read(table, s, at);
+        let value = n.value;
+        if value <= at {
+            return unnamed(s, at, number, count);
         }
-        let FieldAt::Found {
-            name,
-            value,
-            end,
-            folded,
-        } = field::read(table, s, at)
-        else {
+        let v = field::value_at(table, s, value);
+        let end = v.end;
+        if s.len() <= end {
             return refused(4);
-        };
-        let found = slot_of(s, at, name, value, end, folded);
+        }
+        let found = slot_of(s, n.number, value, end, v.folded);
         count = add(slots, count, found);
         number += 1;
         at = end + 2;

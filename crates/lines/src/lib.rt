@@ -11,11 +11,14 @@ use slots::Counted;
 
 mod field;
 mod header;
+mod known;
+mod named;
 mod names;
 mod scan;
 mod slots;
 mod start;
 mod value;
+mod words;
 
 // The start line at the front of a text, by the lengths of its method and its Request-URI.
 pub enum StartAt {
@@ -76,7 +79,7 @@ pub fn number_of(name: &[u8]) -> usize
     ensures { λ r. ⌜ (r ≡ numberOf (now (name .entry))) × (r ≤ 18) ⌝ }
 {
     match name.len() {
-        1 => names::compact(name),
+        1 => names::compact(name[0]),
         2 => names::only(name, b"To", 4),
         3 => names::only(name, b"Via", 1),
         4 => names::of_four(name),

@@ -1,6 +1,7 @@
 // The listed names, by their length.
 ghost use mathlib.Core.Path.{_≡_};
 ghost use mathlib.Core.Bool.{cond};
+ghost use mathlib.Core.List.{[], _∷_};
 ghost use lib.ListN.{length};
 ghost use Rattle.octets.specs.Scans.{sameText};
 ghost use Rattle.sip.specs.Profile.{numberOf};
@@ -16,11 +17,9 @@ pub(crate) fn only(name: &[u8], spelling: &[u8], number: usize) -> usize
 }
 
 // A name of one byte is compact or not listed.
-pub(crate) fn compact(name: &[u8]) -> usize
-    requires { ⌜ length (now name) ≡ 1 ⌝ }
-    ensures { λ r. ⌜ r ≡ numberOf (now (name .entry)) ⌝ }
+pub(crate) fn compact(b: u8) -> usize
+    ensures { λ r. ⌜ r ≡ numberOf (b ∷ []) ⌝ }
 {
-    let b = name[0];
     match b {
         b'V' | b'v' => 1,
         b'F' | b'f' => 3,

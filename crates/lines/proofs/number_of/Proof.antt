@@ -2,10 +2,13 @@
 use mathlib.Core.List.{[], _∷_}
 use Rattle.octets.specs.Classes.{text}
 use Rattle.sip.specs.Profile.{rows}
-use Rattle.lines.proofs.Spellings.{spellings, ofLength, covered, by-length, last, no-length, bounded-number}
+use Rattle.lines.proofs.Spellings.{spellings, ofLength, covered, by-length, last, no-length, one-letter, bounded-number}
 use borrow.Author.Needs.{needs}
 use Rattle.lines.proofs.number_of.Statement.{statement}
 use Rattle.lines.proofs.number_of.Tie as tie
+
+shared-slice-read-compact : tie.Need-shared-slice-read-compact
+shared-slice-read-compact c = search needs
 
 compact-requires : tie.Need-compact-requires
 compact-requires c κs = search needs
@@ -56,7 +59,7 @@ only-requires-5 : tie.Need-only-requires-5
 only-requires-5 c κs = search needs
 
 returns : tie.Need-returns
-returns c = bounded-number _ (search)
+returns c = bounded-number _ (search one-letter)
 
 returns-2 : tie.Need-returns-2
 unfolding text rows spellings ofLength
@@ -101,6 +104,7 @@ pub number-of-spec : {M : Type 1} → statement M
 number-of-spec =
     tie.close
     (tie.spec
+    shared-slice-read-compact
     compact-requires
     slice-aggregate-only
     only-requires

@@ -1,5 +1,4 @@
 -- Each answer is a law of the field by its tests.
-use Rattle.lines.proofs.Values.{line-over}
 use Rattle.lines.proofs.Fields.{nameless, colonless, endless, found}
 use borrow.Author.Needs.{needs}
 use Rattle.lines.proofs.field.read.Statement.{statement}
@@ -17,11 +16,8 @@ colon-end-requires c κs = search needs
 returns-2 : tie.Need-returns-2
 returns-2 c = search colonless
 
-values-requires : tie.Need-values-requires
-values-requires c κs = search needs
-
-value-end-requires : tie.Need-value-end-requires
-value-end-requires c κs = (search needs, search needs, search line-over)
+value-at-requires : tie.Need-value-at-requires
+value-at-requires c κs = search needs
 
 returns-3 : tie.Need-returns-3
 returns-3 c = search endless
@@ -37,7 +33,6 @@ read-spec =
     returns
     colon-end-requires
     returns-2
-    values-requires
-    value-end-requires
+    value-at-requires
     returns-3
     returns-4)

@@ -5,7 +5,7 @@ use lib.ListN.{length, drop}
 use Rattle.octets.specs.Classes.{isValue}
 use Rattle.octets.specs.Scans.{run}
 use Rattle.lines.specs.Sizes.{valueEnd}
-use Rattle.lines.proofs.Values.{ends-bad, ends, next-within, next-less, next-over, next-read}
+use Rattle.lines.proofs.Values.{ends-here, ends-bad, ends, next-within, next-less, next-over, next-read}
 use borrow.Author.Needs.{needs}
 use Rattle.lines.proofs.field.value_end.Statement.{statement}
 use Rattle.lines.proofs.field.value_end.Tie as tie
@@ -15,6 +15,12 @@ Inv-loop table s line end₀ end = (end ≤ length s) × (run isValue (drop end 
 
 abbrev μ-loop : tie.MeasureT-loop
 μ-loop table s line end₀ end = length s - end
+
+is-last-line-requires : tie.Need-is-last-line-requires Inv-loop μ-loop
+is-last-line-requires c κs = search needs
+
+returns : tie.Need-returns Inv-loop μ-loop
+returns c = search ends-here
 
 loop-holds : tie.Need-loop-holds Inv-loop μ-loop
 loop-holds c = search needs
@@ -28,8 +34,8 @@ add-after c = search needs
 is-blank-requires : tie.Need-is-blank-requires Inv-loop μ-loop
 is-blank-requires c κs = search needs
 
-returns : tie.Need-returns Inv-loop μ-loop
-returns c = search ends
+returns-2 : tie.Need-returns-2 Inv-loop μ-loop
+returns-2 c = search ends
 
 add-next : tie.Need-add-next Inv-loop μ-loop
 add-next c = search needs
@@ -43,8 +49,8 @@ loop-less c = search next-less
 loop-again : tie.Need-loop-again Inv-loop μ-loop
 loop-again c = search (next-within, next-over, next-read)
 
-returns-2 : tie.Need-returns-2 Inv-loop μ-loop
-returns-2 c = search ends-bad
+returns-3 : tie.Need-returns-3 Inv-loop μ-loop
+returns-3 c = search ends-bad
 
 pub value-end-spec : {M : Type 1} → statement M
 value-end-spec =
@@ -52,13 +58,15 @@ value-end-spec =
     (tie.spec
     Inv-loop
     μ-loop
+    is-last-line-requires
+    returns
     loop-holds
     is-empty-line-requires
     add-after
     is-blank-requires
-    returns
+    returns-2
     add-next
     values-requires
     loop-less
     loop-again
-    returns-2)
+    returns-3)

@@ -1,7 +1,7 @@
 -- The invariant: what is stored, and what the fields from place at on come to, are the message. The measure is what is left of the text.
 use Prim.Native.Nat.{_≤_, _-_}
 use lib.ListN.{length}
-use Rattle.lines.proofs.Reached.{Reached, begin, over, closes, bad, name-after, value-after, end-after, end-within, value-folded, next-small, next-within, next-less, next-few, next}
+use Rattle.lines.proofs.Reached.{Reached, begin, over, unnamed-ends, endless-ends, end-after, value-folded, next-small, next-within, next-less, next-few, next}
 use borrow.Author.Needs.{needs}
 use Rattle.lines.proofs.header.fields.Statement.{statement}
 use Rattle.lines.proofs.header.fields.Tie as tie
@@ -22,35 +22,26 @@ add-at-2 c = search needs
 loop-holds : tie.Need-loop-holds Inv-loop μ-loop
 loop-holds c = search (begin, needs)
 
-is-empty-line-requires : tie.Need-is-empty-line-requires Inv-loop μ-loop
-is-empty-line-requires c κs = search needs
-
-add-rest : tie.Need-add-rest Inv-loop μ-loop
-add-rest c = search needs
-
-closed-requires : tie.Need-closed-requires Inv-loop μ-loop
-closed-requires c κs = search needs
-
-returns : tie.Need-returns Inv-loop μ-loop
-returns c = search closes
-
 read-requires : tie.Need-read-requires Inv-loop μ-loop
 read-requires c κs = search needs
 
-enum-known-name : tie.Need-enum-known-name Inv-loop μ-loop
-enum-known-name c = search needs
+unnamed-requires : tie.Need-unnamed-requires Inv-loop μ-loop
+unnamed-requires c κs = search needs
 
-enum-told : tie.Need-enum-told Inv-loop μ-loop
-enum-told c = search needs
+returns : tie.Need-returns Inv-loop μ-loop
+returns c = search unnamed-ends
+
+value-at-requires : tie.Need-value-at-requires Inv-loop μ-loop
+value-at-requires c κs = search needs
 
 refused-requires : tie.Need-refused-requires Inv-loop μ-loop
 refused-requires c κs = search needs
 
 returns-2 : tie.Need-returns-2 Inv-loop μ-loop
-returns-2 c = search bad
+returns-2 c = search endless-ends
 
 slot-of-requires : tie.Need-slot-of-requires Inv-loop μ-loop
-slot-of-requires c κs = (search name-after, search value-after, search end-after, search end-within, search needs, search value-folded)
+slot-of-requires c κs = (search needs, search end-after, search needs, search needs, search value-folded)
 
 add-requires : tie.Need-add-requires Inv-loop μ-loop
 add-requires c κs = search needs
@@ -82,13 +73,10 @@ fields-spec =
     add-at
     add-at-2
     loop-holds
-    is-empty-line-requires
-    add-rest
-    closed-requires
-    returns
     read-requires
-    enum-known-name
-    enum-told
+    unnamed-requires
+    returns
+    value-at-requires
     refused-requires
     returns-2
     slot-of-requires

@@ -1,50 +1,29 @@
--- Each answer is a law of the slot of a value, by its part.
-use Rattle.lines.proofs.Breaks.{empty-slot, plain-slot, broken-slot}
+-- A value on one line after one space by its law, and any other by its part.
+use native.Mathlib.Omega.{arith}
+use Rattle.lines.proofs.Breaks.{after-space, spaced-slot}
 use borrow.Author.Needs.{needs}
 use Rattle.lines.proofs.header.slot.Statement.{statement}
 use Rattle.lines.proofs.header.slot.Tie as tie
 
-trimmed-requires : tie.Need-trimmed-requires
-trimmed-requires c κs = search needs
-
-returns : tie.Need-returns
-returns c = search (empty-slot, needs)
+is-plain-requires : tie.Need-is-plain-requires
+is-plain-requires c κs = search needs
 
 add-start : tie.Need-add-start
 add-start c = search needs
 
+sub-len : tie.Need-sub-len
+sub-len c = omega (arith, after-space _ (c .if2 .taken) (c .before .is-plain .ensures .1))
+
+returns : tie.Need-returns
+returns c = (search spaced-slot, search needs, omega (arith, after-space _ (c .if2 .taken) (c .before .is-plain .ensures .1)))
+
+trimmed-slot-requires : tie.Need-trimmed-slot-requires
+trimmed-slot-requires c κs = search needs
+
 returns-2 : tie.Need-returns-2
-returns-2 c = (search plain-slot, search needs, search needs)
-
-add-last : tie.Need-add-last
-add-last c = search needs
-
-sub-has-break : tie.Need-sub-has-break
-sub-has-break c = search needs
-
-part-has-break-start : tie.Need-part-has-break-start
-part-has-break-start c = search needs
-
-part-has-break-end : tie.Need-part-has-break-end
-part-has-break-end c = search needs
-
-has-break-requires : tie.Need-has-break-requires
-has-break-requires c κs = search needs
-
-returns-3 : tie.Need-returns-3
-returns-3 c = (search broken-slot, search needs, search needs)
+returns-2 c = search needs
 
 pub slot-spec : {M : Type 1} → statement M
 slot-spec =
     tie.close
-    (tie.spec
-    trimmed-requires
-    returns
-    add-start
-    returns-2
-    add-last
-    sub-has-break
-    part-has-break-start
-    part-has-break-end
-    has-break-requires
-    returns-3)
+    (tie.spec is-plain-requires add-start sub-len returns trimmed-slot-requires returns-2)

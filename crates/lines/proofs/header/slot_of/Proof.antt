@@ -4,18 +4,6 @@ use borrow.Author.Needs.{needs}
 use Rattle.lines.proofs.header.slot_of.Statement.{statement}
 use Rattle.lines.proofs.header.slot_of.Tie as tie
 
-sub-number-of : tie.Need-sub-number-of
-sub-number-of c = search needs
-
-part-number-of-start : tie.Need-part-number-of-start
-part-number-of-start c = search needs
-
-part-number-of-end : tie.Need-part-number-of-end
-part-number-of-end c = search needs
-
-number-of-requires : tie.Need-number-of-requires
-number-of-requires c κs = search needs
-
 returns : tie.Need-returns
 returns c = search (unlisted-slot, needs)
 
@@ -38,10 +26,6 @@ pub slot-of-spec : {M : Type 1} → statement M
 slot-of-spec =
     tie.close
     (tie.spec
-    sub-number-of
-    part-number-of-start
-    part-number-of-end
-    number-of-requires
     returns
     sub-slot
     part-slot-start

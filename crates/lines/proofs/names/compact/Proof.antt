@@ -3,15 +3,9 @@ use Rattle.octets.specs.Classes.{text}
 use Rattle.octets.specs.Scans.{lower, sameText}
 use Rattle.sip.specs.Profile.{rows, lookup, numberOf}
 use Rattle.lines.proofs.Spellings.{letter, no-letter}
-use Rattle.lines.proofs.Spellings.{letter}
 use borrow.Author.Needs.{needs}
 use Rattle.lines.proofs.names.compact.Statement.{statement}
 use Rattle.lines.proofs.names.compact.Tie as tie
-
--- The byte is one of the two keys of an arm, whose numbers compute, or of none.
-
-shared-slice-read-b : tie.Need-shared-slice-read-b
-shared-slice-read-b c = search needs
 
 returns : tie.Need-returns
 unfolding text lower sameText rows lookup numberOf
@@ -52,7 +46,6 @@ pub compact-spec : {M : Type 1} → statement M
 compact-spec =
     tie.close
     (tie.spec
-    shared-slice-read-b
     returns
     returns-2
     returns-3

@@ -1,0 +1,61 @@
+-- The words make the name with its colon.
+use mathlib.Core.Path.{refl}
+use native.Mathlib.Omega.{arith}
+use Rattle.octets.specs.Classes.{text}
+use Rattle.sip.specs.Profile.{rows, find, nameOf}
+use Rattle.lines.proofs.Quads.{both-at}
+use Rattle.lines.proofs.Spelt.{spelt}
+use borrow.Author.Needs.{needs}
+use Rattle.lines.proofs.known.with_a.Statement.{statement}
+use Rattle.lines.proofs.known.with_a.Tie as tie
+
+slice-aggregate-both : tie.Need-slice-aggregate-both
+slice-aggregate-both c = search needs
+
+slice-aggregate-both-2 : tie.Need-slice-aggregate-both-2
+slice-aggregate-both-2 c = search needs
+
+both-requires : tie.Need-both-requires
+both-requires c κs = search needs
+
+add-value : tie.Need-add-value
+add-value c = search needs
+
+returns : tie.Need-returns
+unfolding nameOf find rows text
+returns c = spelt 12 refl (both-at _ 2 _ (c .before .both .ensures) (c .if1 .taken) (omega arith)) refl (search needs)
+
+slice-aggregate-both-3 : tie.Need-slice-aggregate-both-3
+slice-aggregate-both-3 c = search needs
+
+slice-aggregate-both-4 : tie.Need-slice-aggregate-both-4
+slice-aggregate-both-4 c = search needs
+
+both-requires-2 : tie.Need-both-requires-2
+both-requires-2 c κs = search needs
+
+add-value-2 : tie.Need-add-value-2
+add-value-2 c = search needs
+
+returns-2 : tie.Need-returns-2
+unfolding nameOf find rows text
+returns-2 c = spelt 17 refl (both-at _ 3 _ (c .before .both2 .ensures) (c .if2 .taken) (omega arith)) refl (search needs)
+
+returns-3 : tie.Need-returns-3
+returns-3 c = search needs
+
+pub with-a-spec : {M : Type 1} → statement M
+with-a-spec =
+    tie.close
+    (tie.spec
+    slice-aggregate-both
+    slice-aggregate-both-2
+    both-requires
+    add-value
+    returns
+    slice-aggregate-both-3
+    slice-aggregate-both-4
+    both-requires-2
+    add-value-2
+    returns-2
+    returns-3)
