@@ -2,14 +2,14 @@
 use mathlib.Core.Path.{_≡_, refl, sym, ap, _∙_}
 use mathlib.Core.Bool.{Bool, true, false, cond, _&&_, _||_, and-eq-true-iff}
 use mathlib.Core.List.{List, [], _∷_}
-use mathlib.Core.Logic.{⊎-elim, inl, inr}
+use mathlib.Core.Logic.{_⊎_, ⊎-elim, inl, inr}
 use mathlib.Core.Option.{Option, none, some}
-use Prim.Native.Nat.{ℕ, _+_, _-_, _≤_}
+use Prim.Native.Nat.{ℕ, _+_, _-_, _≤_, _<_}
 use native.Mathlib.Omega.{arith}
-use lib.Dec.{eqb, leb}
+use lib.Dec.{eqb, leb, ltb}
 use lib.ListN.{length, getD}
 use types.Run.{OneOf}
-use borrow.Author.Tests.{eqb-true, eqb-false, ne-eqb, leb-true}
+use borrow.Author.Tests.{eqb-true, eqb-false, ne-eqb, leb-true, lt-ltb, le-ltb, ltb-true}
 use Rattle.octets.specs.Classes.{text, within, among}
 use Rattle.octets.specs.Scans.{lower, sameText}
 use Rattle.octets.proofs.Texts.{sameText-length}
@@ -123,44 +123,67 @@ no-length ks n c o = by-length (length n) n refl (rw (none-left ks (length n) (s
 
 -- ---- the compact names
 
+-- the byte is none of these
+abbrev pub OtherLetter : List ℕ → ℕ → Type 0
+OtherLetter [] c = Unit {0}
+OtherLetter (x ∷ xs) c = OtherLetter xs c × (OneOf (x ∷ []) c → ⊥)
+
 one-byte : (n : List ℕ) → length n ≡ 1 → n ≡ getD n 0 0 ∷ []
 one-byte [] h = absurd (omega arith)
 one-byte (b ∷ []) h = refl
 one-byte (b ∷ c ∷ n) h = absurd (omega arith)
 
-pub letter : (a b k c : ℕ) → k ≡ numberOf (a ∷ []) → k ≡ numberOf (b ∷ []) → OneOf (a ∷ b ∷ []) c → k ≡ numberOf (c ∷ [])
-letter a b k c p q e = ⊎-elim (λ z. p ∙ at a z) (λ z. q ∙ at b z) e
-  where
-    at : (x : ℕ) → c ≡ x → numberOf (x ∷ []) ≡ numberOf (c ∷ [])
-    at x z = ap (λ (y : ℕ). numberOf (y ∷ [])) (sym z)
+-- a capital in its small form
+abbrev small : ℕ → ℕ
+small b = cond (ltb b 97) (b + 32) b
 
-other-letter : (x b : ℕ) → (OneOf ((x - 32) ∷ x ∷ []) b → ⊥) → eqb x (lower b) ≡ false
-unfolding lower
-other-letter x b h = go (within 65 90 b) refl
-  where
-    go : (t : Bool) → within 65 90 b ≡ t → eqb x (cond t (b + 32) b) ≡ false
-    go true e = ne-eqb x (b + 32) (λ z. h (inl (omega arith)))
-    go false e = ne-eqb x b (λ z. h (inr (sym z)))
+module _ (b : ℕ) where
+  pub low-byte : b < 97 → {r : ℕ} → r ≡ b + 32 → r ≡ small b
+  low-byte h e = rw (lt-ltb b 97 h) e
 
--- the byte is none of these letters, the last of which stands first
-abbrev pub OtherLetter : List ℕ → ℕ → Type 0
-OtherLetter [] b = Unit {0}
-OtherLetter (x ∷ xs) b = OtherLetter xs b × (OneOf ((x - 32) ∷ x ∷ []) b → ⊥)
+  pub high-byte : 97 ≤ b → b ≡ small b
+  high-byte h = rw (le-ltb b 97 h)
 
-pub no-letter : (b : ℕ) → OtherLetter (107 ∷ 99 ∷ 108 ∷ 109 ∷ 105 ∷ 116 ∷ 102 ∷ 118 ∷ []) b → 0 ≡ numberOf (b ∷ [])
-unfolding pick text rows spellings ofLength sameText
-no-letter b o =
-    by-length 1 (b ∷ []) refl
-    (rw (
-      other-letter 107 b (o .1),
-      other-letter 99 b (o .0 .1),
-      other-letter 108 b (o .0 .0 .1),
-      other-letter 109 b (o .0 .0 .0 .1),
-      other-letter 105 b (o .0 .0 .0 .0 .1),
-      other-letter 116 b (o .0 .0 .0 .0 .0 .1),
-      other-letter 102 b (o .0 .0 .0 .0 .0 .0 .1),
-      other-letter 118 b (o .0 .0 .0 .0 .0 .0 .0 .1),
-    ))
+  small-is : (x : ℕ) → small b ≡ x → (b ≡ x - 32) ⊎ (b ≡ x)
+  small-is x e = go (ltb b 97) e
+    where
+      go : (t : Bool) → cond t (b + 32) b ≡ x → (b ≡ x - 32) ⊎ (b ≡ x)
+      go true q = inl (omega arith)
+      go false q = inr q
+
+  module _ {c : ℕ} (hc : c ≡ small b) where
+    pub letter : (x k : ℕ) → k ≡ numberOf ((x - 32) ∷ []) → k ≡ numberOf (x ∷ []) → OneOf (x ∷ []) c → k ≡ numberOf (b ∷ [])
+    letter x k p q e = ⊎-elim (λ z. p ∙ at z) (λ z. q ∙ at z) (small-is x (sym hc ∙ e))
+      where
+        at : {y : ℕ} → b ≡ y → numberOf (y ∷ []) ≡ numberOf (b ∷ [])
+        at z = ap (λ (y : ℕ). numberOf (y ∷ [])) (sym z)
+
+    other-letter : (x : ℕ) → ltb 96 x ≡ true → (OneOf (x ∷ []) c → ⊥) → eqb x (lower b) ≡ false
+    unfolding lower
+    other-letter x l h = go (within 65 90 b) refl
+      where
+        go : (t : Bool) → within 65 90 b ≡ t → eqb x (cond t (b + 32) b) ≡ false
+        go true e =
+            let i = and-eq-true-iff (leb 65 b) (leb b 90) .0 e in
+            let k : b < 97 = omega (arith, leb-true b 90 (i .1)) in
+            ne-eqb x (b + 32) (λ z. h (hc ∙ rw (lt-ltb b 97 k) (sym z)))
+        go false e = ne-eqb x b (λ z. h (let k : 97 ≤ b = omega (arith, ltb-true 96 x l) in hc ∙ rw (le-ltb b 97 k) (sym z)))
+
+    -- none of these letters, the last of which stands first
+    pub no-letter : OtherLetter (107 ∷ 99 ∷ 108 ∷ 109 ∷ 105 ∷ 116 ∷ 102 ∷ 118 ∷ []) c → 0 ≡ numberOf (b ∷ [])
+    unfolding pick text rows spellings ofLength sameText
+    no-letter o =
+        by-length 1 (b ∷ []) refl
+        (rw (
+          other-letter 107 refl (o .1),
+          other-letter 99 refl (o .0 .1),
+          other-letter 108 refl (o .0 .0 .1),
+          other-letter 109 refl (o .0 .0 .0 .1),
+          other-letter 105 refl (o .0 .0 .0 .0 .1),
+          other-letter 116 refl (o .0 .0 .0 .0 .0 .1),
+          other-letter 102 refl (o .0 .0 .0 .0 .0 .0 .1),
+          other-letter 118 refl (o .0 .0 .0 .0 .0 .0 .0 .1),
+        ))
 
 pub one-letter : (n : List ℕ) → length n ≡ 1 → {k : ℕ} → k ≡ numberOf (getD n 0 0 ∷ []) → k ≡ numberOf n
 one-letter n h e = e ∙ ap numberOf (sym (one-byte n h))

@@ -2,6 +2,8 @@
 ghost use mathlib.Core.Path.{_≡_};
 ghost use mathlib.Core.Bool.{cond};
 ghost use mathlib.Core.List.{[], _∷_};
+ghost use Prim.Native.Nat.{_+_};
+ghost use lib.Dec.{ltb};
 ghost use lib.ListN.{length};
 ghost use Rattle.octets.specs.Scans.{sameText};
 ghost use Rattle.sip.specs.Profile.{numberOf};
@@ -16,19 +18,30 @@ pub(crate) fn only(name: &[u8], spelling: &[u8], number: usize) -> usize
     0
 }
 
-// A name of one byte is compact or not listed.
+// A capital letter in its small form. No other byte becomes a letter.
+fn small(b: u8) -> u8
+    ensures { λ r. ⌜ r ≡ cond (ltb b 97) (b + 32) b ⌝ }
+{
+    if b < 97 {
+        return b + 32;
+    }
+    b
+}
+
+// A name of one byte is compact or not listed. One key for a letter leaves few enough that it costs no call where it is asked twice.
 pub(crate) fn compact(b: u8) -> usize
     ensures { λ r. ⌜ r ≡ numberOf (b ∷ []) ⌝ }
 {
-    match b {
-        b'V' | b'v' => 1,
-        b'F' | b'f' => 3,
-        b'T' | b't' => 4,
-        b'I' | b'i' => 5,
-        b'M' | b'm' => 7,
-        b'L' | b'l' => 8,
-        b'C' | b'c' => 9,
-        b'K' | b'k' => 13,
+    let letter = small(b);
+    match letter {
+        b'v' => 1,
+        b'f' => 3,
+        b't' => 4,
+        b'i' => 5,
+        b'm' => 7,
+        b'l' => 8,
+        b'c' => 9,
+        b'k' => 13,
         _ => 0,
     }
 }

@@ -1,6 +1,5 @@
 -- The words make the name with its colon.
 use mathlib.Core.Path.{refl}
-use native.Mathlib.Omega.{arith}
 use Rattle.octets.specs.Classes.{text}
 use Rattle.sip.specs.Profile.{rows, find, nameOf}
 use Rattle.lines.proofs.Quads.{word-at}

@@ -1,7 +1,6 @@
 -- The invariant: the run from the place on is what was passed and the run of what is left from i on.
 use mathlib.Core.Path.{_≡_}
 use Prim.Native.Nat.{_+_, _-_, _≤_}
-use native.Mathlib.Omega.{arith}
 use lib.ListN.{length, drop}
 use Rattle.octets.specs.Classes.{isValue}
 use Rattle.octets.specs.Scans.{run}
