@@ -2,9 +2,9 @@
 use judgement::Judged;
 use judgement::Refusal;
 ghost use mathlib.Core.Path.{_≡_};
-ghost use mathlib.Core.Bool.{true, cond, _&&_};
+ghost use mathlib.Core.Bool.{true, false, cond, _&&_};
 ghost use mathlib.Core.List.{_++_};
-ghost use Prim.Native.Nat.{_+_, _^_, _≤_, _<_};
+ghost use Prim.Native.Nat.{ℕ, _+_, _^_, _≤_, _<_};
 ghost use lib.Dec.{eqb, leb};
 ghost use lib.ListN.{length, take, drop};
 ghost use Rattle.octets.specs.Classes.{text};
@@ -16,13 +16,16 @@ ghost use Rattle.sip.specs.Readings.{part, noCalling, callerAt, callingAt, call
 ghost use Rattle.sip.specs.Screen.{screened};
 ghost use Rattle.sip.specs.Values.{isIdentity, isGlobal};
 ghost use Rattle.emit.specs.Put.{Wrote};
+ghost use Rattle.lines.specs.Index.{slotAt, index};
 ghost use Rattle.judgement.specs.Entries.{entriesFrom};
-ghost use Rattle.judgement.specs.Judges.{Passes};
+ghost use Rattle.judgement.specs.Judges.{Told, Passes};
+ghost use Rattle.judgement.specs.Sets.{has};
 ghost use Rattle.gateway.specs.Identities.{Identified};
-ghost use Rattle.gateway.specs.Sending.{Told, sendingOf};
+ghost use Rattle.gateway.specs.Sending.{sendingOf};
 ghost use Rattle.gateway.specs.Sent.{sentMessage};
 ghost use Rattle.gateway.specs.Verdicts.{numbersOf};
 
+mod copy;
 mod names;
 mod output;
 
@@ -34,7 +37,7 @@ pub enum Verdict {
 
 // What of the outgoing message the kept values do not say by themselves: whether the caller is masked, what Max-Forwards says, the length
 // of the body, and where the tag stands in From's value.
-pub struct Sending {
+pub(crate) struct Sending {
     pub masked: bool,
     pub hops: usize,
     pub body: usize,
@@ -53,34 +56,35 @@ fn sending_of(j: Judged, masked: bool) -> Sending
     }
 }
 
-// The start line, of which `before` bytes stand before the version, the lines of the kept fields, and the body, which is at `rest`.
+// The start line, of which `before` bytes stand before the version, the lines of the fields that go out, and the body, which is at `rest`.
 fn put_message(
     out: &mut [u8],
     message: &[u8],
     before: usize,
     rest: usize,
-    kept: u32,
+    sent: u32,
     slots: &[u16; 384],
     count: usize,
     w: Sending,
 ) -> usize
     requires { ⌜
-        Told w (entriesFrom kept (now message) (now slots) count 0) × (length (now message) ≤ 8192)
+        Told (w .hops) (w .tag) (entriesFrom sent (now message) (now slots) count 0) × ((w .masked && has sent 15) ≡ false)
+        × ((i : ℕ) → slotAt (now slots) i .start + slotAt (now slots) i .len ≤ length (now message))
         × (length (take before (now message))
-        + (10 + (length (fieldLines (w .masked) (w .body) (entriesFrom kept (now message) (now slots) count 0))
+        + (10 + (length (fieldLines (w .masked) (w .body) (entriesFrom sent (now message) (now slots) count 0))
         + (2 + length (take (w .body) (drop rest (now message)))))) ≤ length (now out))
         ⌝ }
     ensures { λ r. ⌜
         Wrote (now (out .entry)) 0
         (take before (now (message .entry))
         ++ (text " SIP/2.0\r\n"
-        ++ (fieldLines (w .masked) (w .body) (entriesFrom kept (now (message .entry)) (now (slots .entry)) count 0)
+        ++ (fieldLines (w .masked) (w .body) (entriesFrom sent (now (message .entry)) (now (slots .entry)) count 0)
         ++ (crlf ++ take (w .body) (drop rest (now (message .entry)))))))
         r (now (out .exit))
         ⌝ }
 {
     let fields = output::put_start(out, message, before);
-    let end = output::put_lines(out, fields, message, kept, slots, count, w);
+    let end = output::put_lines(out, fields, message, sent, slots, count, w);
     output::put_body(out, end, message, rest, w.body)
 }
 
@@ -90,8 +94,9 @@ fn write(out: &mut [u8], message: &[u8], slots: &[u16; 384], j: Judged, masked: 
     ensures { λ r. ⌜ Wrote (now (out .entry)) 0 (sentMessage (now (message .entry)) (now (slots .entry)) j masked) r (now (out .exit)) ⌝ }
 {
     let w = sending_of(j, masked);
+    let sent = output::sent_set(j.kept, masked);
     let before = j.method + 1 + j.uri;
-    put_message(out, message, before, j.rest, j.kept, slots, j.count, w)
+    put_message(out, message, before, j.rest, sent, slots, j.count, w)
 }
 
 // The length of the outgoing message.
@@ -100,8 +105,9 @@ fn sent_len(message: &[u8], slots: &[u16; 384], j: Judged, masked: bool) -> usiz
     ensures { λ r. ⌜ r ≡ length (sentMessage (now (message .entry)) (now (slots .entry)) j masked) ⌝ }
 {
     let w = sending_of(j, masked);
+    let sent = output::sent_set(j.kept, masked);
     let before = j.method + 1 + j.uri;
-    let fields = output::lines_len(message, j.kept, slots, j.count, w);
+    let fields = output::lines_len(message, sent, slots, j.count, w);
     before + 10 + fields + 2 + j.body
 }
 

@@ -22,4 +22,5 @@ pub mod Within
 pub mod Firsts
 pub mod Addresses
 pub mod Identities
+pub mod Tags
 pub mod Calling

@@ -1,4 +1,4 @@
--- `emit::eight` meets its contract, one byte after the other.
+-- One byte after the other.
 use mathlib.Core.Path.{_≡_, refl, sym, ap}
 use mathlib.Core.List.{List, [], _∷_}
 use Prim.Native.Nat.{ℕ, suc, _+_, _≤_, _<_}
@@ -6,8 +6,8 @@ use native.Mathlib.Omega.{arith}
 use lib.ListN.{length, take, drop, getD}
 use borrow.Author.Needs.{needs}
 use Rattle.octets.proofs.Places.{drop1}
-use Rattle.emit.proofs.eight.Statement.{statement}
-use Rattle.emit.proofs.eight.Tie as tie
+use Rattle.gateway.proofs.copy.eight.Statement.{statement}
+use Rattle.gateway.proofs.copy.eight.Tie as tie
 
 module _ (s : List ℕ) where
   more : (n k j : ℕ) {x : List ℕ} → k < length s → j ≡ k + 1 → take n (drop j s) ≡ x → take (suc n) (drop k s) ≡ getD s k 0 ∷ x
