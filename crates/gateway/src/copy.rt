@@ -17,7 +17,7 @@ pub(crate) fn few(out: &mut [u8], at: usize, s: &[u8]) -> usize
     at + j
 }
 
-// The eight bytes from a place on.
+// The eight, or sixteen, bytes from a place on.
 fn eight(s: &[u8], k: usize) -> [u8; 8]
     requires { ⌜ k + 8 ≤ length (now s) ⌝ }
     ensures { λ r. ⌜ r ≡ take 8 (drop k (now (s .entry))) ⌝ }
@@ -31,6 +31,30 @@ fn eight(s: &[u8], k: usize) -> [u8; 8]
         s[k + 5],
         s[k + 6],
         s[k + 7],
+    ]
+}
+
+fn sixteen(s: &[u8], k: usize) -> [u8; 16]
+    requires { ⌜ k + 16 ≤ length (now s) ⌝ }
+    ensures { λ r. ⌜ r ≡ take 16 (drop k (now (s .entry))) ⌝ }
+{
+    [
+        s[k],
+        s[k + 1],
+        s[k + 2],
+        s[k + 3],
+        s[k + 4],
+        s[k + 5],
+        s[k + 6],
+        s[k + 7],
+        s[k + 8],
+        s[k + 9],
+        s[k + 10],
+        s[k + 11],
+        s[k + 12],
+        s[k + 13],
+        s[k + 14],
+        s[k + 15],
     ]
 }
 
@@ -50,5 +74,24 @@ pub(crate) fn many(out: &mut [u8], at: usize, s: &[u8]) -> usize
         j += 8;
     }
     let word = eight(s, last);
+    few(out, at + last, &word)
+}
+
+// The same, sixteen bytes at once: of a field's value, which is mostly longer than that.
+pub(crate) fn value(out: &mut [u8], at: usize, s: &[u8]) -> usize
+    requires { ⌜ at + length (now s) ≤ length (now out) ⌝ }
+    ensures { λ r. ⌜ Wrote (now (out .entry)) at (now (s .entry)) r (now (out .exit)) ⌝ }
+{
+    if s.len() < 16 {
+        return many(out, at, s);
+    }
+    let last = s.len() - 16;
+    let mut j = 0;
+    while j < last {
+        let word = sixteen(s, j);
+        few(out, at + j, &word);
+        j += 16;
+    }
+    let word = sixteen(s, last);
     few(out, at + last, &word)
 }

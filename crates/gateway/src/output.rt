@@ -208,7 +208,7 @@ fn put_value(out: &mut [u8], at: usize, message: &[u8], s: Slot, w: Sending) -> 
     if s.folded {
         return emit::put_folded(out, at, v);
     }
-    copy::many(out, at, v)
+    copy::value(out, at, v)
 }
 
 // A field's line: its front, its value, CRLF.

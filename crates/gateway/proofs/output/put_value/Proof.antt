@@ -98,8 +98,8 @@ same-length-4 c = search needs
 returns-4 : tie.Need-returns-4
 returns-4 c = search (wrote-as, sent-broken)
 
-many-requires : tie.Need-many-requires
-many-requires c κs = search (whole-fits, needs)
+value-requires : tie.Need-value-requires
+value-requires c κs = search (whole-fits, needs)
 
 same-length-5 : tie.Need-same-length-5
 same-length-5 c = search needs
@@ -126,6 +126,6 @@ put-value-spec =
     put-folded-requires
     same-length-4
     returns-4
-    many-requires
+    value-requires
     same-length-5
     returns-5)
