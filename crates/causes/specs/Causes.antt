@@ -15,7 +15,7 @@ pub record Row : Type 0 where
 abbrev pub row : List ℕ → ℕ → Row
 row ks n = record { keys = ks; gives = n }
 
--- the number is one of these
+-- the number is one of these; `octets` has the same, and the cause map stands alone, without the byte classes
 unfoldable pub among : List ℕ → ℕ → Bool
 among [] n = false
 among (k ∷ ks) n = eqb n k || among ks n

@@ -8,10 +8,10 @@ use native.Mathlib.Omega.{arith}
 use lib.Dec.{eqb, leb}
 use lib.ListN.{length, getD}
 use borrow.Author.Tests.{eqb-true, eqb-false, leb-true, ne-eqb}
-use Rattle.octets.specs.Classes.{text}
+use Rattle.octets.specs.Classes.{among, text}
 use Rattle.sip.specs.Profile.{rows, numbers, find, nameOf}
 use Rattle.sip.proofs.Tests.{and-left, and-right}
-use Rattle.judgement.proofs.Members.{isAmong, find-none}
+use Rattle.judgement.proofs.Members.{find-none}
 
 -- ---- numbers that are not listed
 
@@ -19,12 +19,12 @@ low : List ℕ → Bool
 low [] = true
 low (n ∷ ns) = leb n 18 && low ns
 
-among-past : (ns : List ℕ) (k : ℕ) → low ns ≡ true → 18 < k → isAmong k ns ≡ false
+among-past : (ns : List ℕ) (k : ℕ) → low ns ≡ true → 18 < k → among ns k ≡ false
 unfolding low
 among-past [] k e h = refl
 among-past (n ∷ ns) k e h =
     let l : n ≤ 18 = leb-true n 18 (and-left (leb n 18) (low ns) e) in
-    rw (ne-eqb n k (λ z. omega arith), among-past ns k (and-right (leb n 18) (low ns) e) h)
+    rw (ne-eqb k n (λ z. omega arith), among-past ns k (and-right (leb n 18) (low ns) e) h)
 
 pub name-none : (n : ℕ) → 18 < n → nameOf n ≡ []
 unfolding nameOf numbers low rows

@@ -16,13 +16,12 @@ use Rattle.sip.specs.declared.ParamAt.{ParamAt}
 use Rattle.sip.specs.declared.ParamsAt.{ParamsAt}
 use Rattle.sip.specs.declared.PartyAt.{PartyAt}
 use Rattle.sip.specs.Values.{isEmpty, isNumber, address, noParam, sign, paramValue, paramRest, param, noParams, withParam, stops, params, noParty, party}
-use Rattle.sip.specs.Values.{withToken, tokens, listOr, isLacking}
+use Rattle.sip.specs.Values.{withToken, tokens, listOr, firstPlace, isLacking}
 use Rattle.sip.proofs.Tests.{never, and-right}
 use Rattle.values.specs.declared.ListAt.{ListAt}
-use Rattle.values.specs.Answers.{wholeNumber, firstPlace, requireAt}
-use Rattle.judgement.specs.declared.Finding.{Finding}
+use Rattle.values.specs.Answers.{wholeNumber, privacyAt, requireAt}
 use Rattle.judgement.specs.declared.Tally.{Tally}
-use Rattle.judgement.specs.Tallies.{noted}
+use Rattle.judgement.specs.Tallies.{finding, noted}
 
 module _ (most bound : ℕ) (v : List ℕ) where
   abbrev good : Bool
@@ -88,6 +87,10 @@ module _ (v : List ℕ) {r : ListAt} (e : r ≡ requireAt v) where
   pub place-bound : r .first ≤ length v
   unfolding requireAt
   place-bound = rw e (omega (arith, count-le 44 0 v, place-le isLacking 0 (listOr (tokens 44 0 v))))
+
+pub id-bound : (v : List ℕ) {r : ListAt} → r ≡ privacyAt v → r .first ≤ length v
+unfolding privacyAt
+id-bound v e = rw e (omega (arith, count-le 59 0 v, place-le (sameText (text "id")) 0 (listOr (tokens 59 0 v))))
 
 -- ---- the tag of a party stands in its value
 
@@ -174,11 +177,11 @@ party-within v = go (not (eqb a 0) && eqb (a + p .size) (length v)) refl
         omega (arith, params-within noParams 0 (drop a v) (omega arith))
     go false q = omega arith
 
--- one field adds no more tags than it has
-pub tags-grow : (t : Tally) (n : ℕ) (f : Finding) → noted t n f .tags ≤ t .tags + f .len
-unfolding noted
-tags-grow t n f = go (eqb n 14)
+-- one field adds no more tags than it has bytes
+pub tags-grow : (method : List ℕ) (t : Tally) (n : ℕ) (v : List ℕ) → noted t n (finding method n v) .tags ≤ t .tags + length v
+unfolding noted finding requireAt
+tags-grow method t n v = go (eqb n 14) refl
   where
-    go : (b : Bool) → cond b (t .tags + f .len) (t .tags) ≤ t .tags + f .len
-    go true = omega arith
-    go false = omega arith
+    go : (b : Bool) → eqb n 14 ≡ b → cond b (t .tags + finding method n v .len) (t .tags) ≤ t .tags + length v
+    go true q = rw (eqb-true n 14 q) (omega (arith, count-le 44 0 v))
+    go false q = omega arith

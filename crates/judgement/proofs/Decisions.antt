@@ -7,12 +7,12 @@ use Prim.Native.Nat.{ℕ}
 use native.Mathlib.Omega.{arith}
 use lib.Dec.{eqb}
 use Rattle.sip.specs.declared.Column.{Column}
-use Rattle.sip.specs.Refusals.{Answer, refusal, when, firstOf}
+use Rattle.sip.specs.Refusals.{Answer, refusal, when, isInitial, firstOf}
 use Rattle.values.specs.declared.RequestUri.{RequestUri}
 use Rattle.judgement.specs.declared.Refusal.{Refusal}
 use Rattle.judgement.specs.declared.Tally.{Tally}
 use Rattle.judgement.specs.Sets.{lackAt}
-use Rattle.judgement.specs.Judged.{bodyLength, tooLong, hopless, initial, columnTagged, early, late, decided, refusalOf}
+use Rattle.judgement.specs.Judged.{bodyLength, tooLong, hopless, columnTagged, early, late, decided, refusalOf}
 
 first-some : (xs ys : List (Option Answer)) (a : Answer) → firstOf xs ≡ some a → firstOf (xs ++ ys) ≡ some a
 first-some [] ys a e = let z : _≡_ {A = ℕ} 0 1 = cc in absurd (omega arith)
@@ -77,7 +77,7 @@ module _ (t : Tally) (u : RequestUri) where
           (
             numbered (not (eqb (t .lacking) 0)) (refusal 14 420 (t .lacking) 0) (λ q. omega arith) refl,
             (
-              numbered (initial c && not (u .called)) (refusal 15 484 0 0) (λ q. omega arith) refl,
+              numbered (isInitial c && not (u .called)) (refusal 15 484 0 0) (λ q. omega arith) refl,
               tt,
             ),
           ),
@@ -89,8 +89,8 @@ module _ (t : Tally) (u : RequestUri) where
     unfolding decided
     decided-numbered =
         numbered-first (decided c t u rest)
-        (numbered-append (early t u rest) (late (columnTagged c (t .tagged)) t u (bodyLength t rest)) (early-numbered rest)
-        (late-numbered (columnTagged c (t .tagged)) (bodyLength t rest)))
+        (numbered-append (early t u rest) (late (columnTagged c (not (eqb (t .tagged) 0))) t u (bodyLength t rest)) (early-numbered rest)
+        (late-numbered (columnTagged c (not (eqb (t .tagged) 0))) (bodyLength t rest)))
 
     module _ {x : Refusal} (e : x ≡ refusalOf (firstOf (early t u rest))) where
       pub stop : (x .reason ≡ 0 → ⊥) → x ≡ refusalOf (firstOf (decided c t u rest))
@@ -101,9 +101,9 @@ module _ (t : Tally) (u : RequestUri) where
           go none q = let z : x .reason ≡ 0 = rw (e, q) in absurd (h z)
           go (some a) q =
               e
-              ∙ rw (q, first-some (early t u rest) (late (columnTagged c (t .tagged)) t u (bodyLength t rest)) a q)
+              ∙ rw (q, first-some (early t u rest) (late (columnTagged c (not (eqb (t .tagged) 0))) t u (bodyLength t rest)) a q)
 
-      pub go-on : x .reason ≡ 0 → {d : Column} → d ≡ columnTagged c (t .tagged) → {n : ℕ} → n ≡ bodyLength t rest
+      pub go-on : x .reason ≡ 0 → {d : Column} → d ≡ columnTagged c (not (eqb (t .tagged) 0)) → {n : ℕ} → n ≡ bodyLength t rest
           → {r : Refusal} → r ≡ refusalOf (firstOf (late d t u n)) → r ≡ refusalOf (firstOf (decided c t u rest))
       unfolding decided
       go-on h {d} hd {n} hn {r} hr = go (firstOf (early t u rest)) refl (numbered-first (early t u rest) (early-numbered rest))
@@ -111,5 +111,5 @@ module _ (t : Tally) (u : RequestUri) where
           go : (o : Option Answer) → firstOf (early t u rest) ≡ o → Numbered o → r ≡ refusalOf (firstOf (decided c t u rest))
           go none q k =
               hr
-              ∙ rw (hd, hn, first-none (early t u rest) (late (columnTagged c (t .tagged)) t u (bodyLength t rest)) q)
+              ∙ rw (hd, hn, first-none (early t u rest) (late (columnTagged c (not (eqb (t .tagged) 0))) t u (bodyLength t rest)) q)
           go (some a) q k = let z : a .reason ≡ 0 = rw (e, q) at h in absurd (k .0 z)

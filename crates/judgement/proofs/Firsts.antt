@@ -12,11 +12,11 @@ use Rattle.octets.specs.Classes.{text}
 use Rattle.octets.specs.Scans.{decimal, sameText}
 use Rattle.sip.specs.declared.Span.{Span}
 use Rattle.sip.specs.Profile.{once, find, rows}
-use Rattle.sip.specs.Values.{party, isTagged, tagOf, tokens, listOr, holdsId, isNumber, isMaxForwards, isContentLength}
+use Rattle.sip.specs.Values.{party, isTagged, tagOf, tokens, listOr, firstPlace, holdsId, isNumber, isMaxForwards, isContentLength}
 use Rattle.sip.specs.Refusals.{Entry, valueOf, occurs, toTagged, withheld, contentLength, noHops, firstRepeat, wellFormed}
 use Rattle.sip.specs.Readings.{noSpan, part}
 use Rattle.sip.proofs.Once.{at-most-once}
-use Rattle.values.specs.Answers.{wholeNumber, identityAt, firstPlace, privacyAt}
+use Rattle.values.specs.Answers.{wholeNumber, identityAt, privacyAt}
 use Rattle.judgement.specs.declared.Finding.{Finding}
 use Rattle.judgement.specs.declared.Tally.{Tally}
 use Rattle.judgement.specs.Sets.{has}
@@ -111,19 +111,19 @@ abbrev pub TagWithin : Span → Entry → Type 0
 TagWithin p e = e .number ≡ 3 → p .start + p .len ≤ length (e .value)
 
 module _ (method : List ℕ) (es : List Entry) where
-  pub total-tagged : tallied method noTally es .tagged ≡ toTagged es
+  pub total-tagged : not (eqb (tallied method noTally es .tagged) 0) ≡ toTagged es
   unfolding noted finding toTagged isTagged
-  total-tagged = first method 4 (λ (t : Tally). t .tagged) (λ (f : Finding). f .flag) (λ t n f. refl) es ∙ go (valueOf 4 es)
+  total-tagged = rw (first method 4 (λ (t : Tally). t .tagged) (λ (f : Finding). f .len) (λ t n f. refl) es) (go (valueOf 4 es))
     where
-      go : (o : Option (List ℕ)) → of false (λ (v : List ℕ). finding method 4 v .flag) o ≡ orFalse isTagged o
+      go : (o : Option (List ℕ)) → not (eqb (of 0 (λ (v : List ℕ). finding method 4 v .len) o) 0) ≡ orFalse isTagged o
       go none = refl
       go (some v) = refl
 
-  pub total-withheld : tallied method noTally es .withheld ≡ withheld es
+  pub total-withheld : not (eqb (tallied method noTally es .withheld) 0) ≡ withheld es
   unfolding noted finding withheld
-  total-withheld = first method 16 (λ (t : Tally). t .withheld) (λ (f : Finding). f .flag) (λ t n f. refl) es ∙ go (valueOf 16 es)
+  total-withheld = rw (first method 16 (λ (t : Tally). t .withheld) (λ (f : Finding). f .start) (λ t n f. refl) es) (go (valueOf 16 es))
     where
-      go : (o : Option (List ℕ)) → of false (λ (v : List ℕ). finding method 16 v .flag) o ≡ orFalse holdsId o
+      go : (o : Option (List ℕ)) → not (eqb (of 0 (λ (v : List ℕ). finding method 16 v .start) o) 0) ≡ orFalse holdsId o
       go none = refl
       go (some v) = id-found v
 

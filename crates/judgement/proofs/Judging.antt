@@ -1,10 +1,11 @@
 -- Judging a message that was read promises what document 01 says of it: by whether a reason applies, and by the column of its method.
 use mathlib.Core.Path.{_≡_, refl, sym, ap, _∙_}
-use mathlib.Core.Bool.{Bool, true, false, cond}
+use mathlib.Core.Bool.{Bool, true, false, not, cond}
 use mathlib.Core.List.{List, [], _∷_}
 use mathlib.Core.Option.{Option, none, some}
 use Prim.Native.Nat.{ℕ, _+_, _-_, _≤_}
 use native.Mathlib.Omega.{arith}
+use lib.Dec.{eqb}
 use lib.ListN.{length, take, drop, length-drop}
 use Rattle.octets.specs.Classes.{text}
 use Rattle.octets.specs.Scans.{same}
@@ -15,14 +16,13 @@ use Rattle.sip.specs.Profile.{columnOf}
 use Rattle.sip.specs.Refusals.{Answer, read, lines, kept, refusal, replied, firstOf, Entry, keptOf, toTagged, firstRepeat, bodyOf, exceeds, reasons, refused, accepted, judged, judgement}
 use Rattle.sip.proofs.Tests.{never}
 use Rattle.lines.specs.declared.Message.{Message}
-use Rattle.lines.specs.Index.{slotAt}
 use Rattle.values.specs.Answers.{requestUri}
 use Rattle.judgement.specs.declared.ColumnOf.{ColumnOf}
 use Rattle.judgement.specs.declared.ColumnOf.the-variants.{Is, Unknown}
 use Rattle.judgement.specs.declared.Refusal.{Refusal}
 use Rattle.judgement.specs.declared.Judged.{Judged}
 use Rattle.judgement.specs.Sets.{keptSet, columnFound, columnAt}
-use Rattle.judgement.specs.Entries.{entriesFrom}
+use Rattle.judgement.specs.Entries.{Within, entriesFrom}
 use Rattle.judgement.specs.Tallies.{noTally, tallied}
 use Rattle.judgement.specs.Judged.{columnTagged, decided, refusalOf, silenced, judgedBy, judgedAs, judgedLines}
 use Rattle.judgement.specs.Judges.{Told, nothing, also, Passes, Judges}
@@ -82,7 +82,7 @@ pub record Reads (m slots : List ℕ) (x : Message) : Type 0 where
   pub uri-is : take (x .uri) (drop (x .method + 1) m) ≡ line .uri
   pub rest-within : x .rest ≤ length m
   pub rest-is : drop (x .rest) m ≡ header .rest
-  pub slots-within : (i : ℕ) → slotAt slots i .start + slotAt slots i .len ≤ length m
+  pub slots-within : Within m slots
   pub slots-hold : (c : Column) → entriesFrom (keptSet c) m slots (x .count) 0 ≡ kept (some c) (header .fields)
 
 module _ {m slots : List ℕ} {x : Message} (r : Reads m slots x) where
@@ -108,7 +108,7 @@ module _ {m slots : List ℕ} {x : Message} (r : Reads m slots x) where
     es = entriesFrom (keptSet c) m slots (x .count) 0
 
     abbrev column : Column
-    column = columnTagged c (all (r .line) es left .tagged)
+    column = columnTagged c (not (eqb (all (r .line) es left .tagged) 0))
 
     kept-is : keptOf (r .line) (r .header .fields) ≡ es
     kept-is = rw e (sym (r .slots-hold c))

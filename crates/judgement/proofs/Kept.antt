@@ -1,16 +1,20 @@
 -- The pass over the slots, one slot at a time: what is kept is noted with its canonical value, and the rest of the entries is left.
 use mathlib.Core.Path.{_≡_, refl, sym, ap, _∙_}
 use mathlib.Core.Bool.{Bool, true, false, not, cond}
-use mathlib.Core.List.{List, _∷_, _++_}
+use mathlib.Core.List.{List, [], _∷_, _++_}
 use Prim.Native.Nat.{ℕ, suc, _+_, _-_, _≤_, _<_, _^_}
 use native.Mathlib.Numerals.{add-one}
 use native.Mathlib.Omega.{arith}
 use lib.Dec.{leb}
-use lib.ListN.{length, take, drop}
+use lib.ListN.{length, take, drop, length-take, length-drop}
 use lib.Seq.{take-at}
 use borrow.Author.Tests.{leb-true, not-true, not-false}
-use Rattle.sip.specs.Lines.{folded}
-use Rattle.sip.proofs.Canonical.{folded-le}
+use Rattle.octets.specs.Classes.{isBreak, isGap}
+use Rattle.octets.specs.Scans.{run, any}
+use Rattle.sip.specs.Lines.{joined, folded}
+use Rattle.sip.specs.Values.{isEmpty}
+use Rattle.sip.proofs.Canonical.{folded-byte, folded-run, folded-le}
+use Rattle.sip.proofs.Tests.{never}
 use Rattle.lines.specs.declared.Slot.{Slot}
 use Rattle.lines.specs.Index.{slotAt}
 use Rattle.emit.specs.Put.{Wrote}
@@ -18,10 +22,11 @@ use Rattle.emit.proofs.Laws.{wrote-room}
 use Rattle.judgement.specs.declared.Finding.{Finding}
 use Rattle.judgement.specs.declared.Tally.{Tally}
 use Rattle.judgement.specs.Sets.{has}
-use Rattle.judgement.specs.Entries.{valueAt, entryAt, entriesFrom}
+use Rattle.judgement.specs.Entries.{Within, valueAt, entryAt, entriesFrom}
 use Rattle.judgement.specs.Tallies.{finding, noted, noTally, tallied}
 use Rattle.judgement.specs.Judged.{takenUp}
 use Rattle.judgement.proofs.Bounds.{tags-grow}
+use Rattle.judgement.proofs.Found.{filled, other}
 use Rattle.judgement.proofs.Masks.{has-low}
 
 -- ---- a value is folded into a buffer that has room for it
@@ -42,14 +47,37 @@ module _ (method : List ℕ) (n : ℕ) (v : List ℕ) (size : ℕ) (short : leng
   pub folded-bound : {x : ℕ} → x ≤ length p + 99999 → x ≤ 108191
   folded-bound l = omega (arith, ap length cut-is, folded-le v, leb-true size 8192 least)
 
--- ---- a value, with a line break in it or not
+-- ---- a value that need not be folded
 
-module _ (method : List ℕ) (n : ℕ) (v : List ℕ) (broken : Bool) {f : Finding} where
-  pub plain-found : not broken ≡ true → f ≡ finding method n v → f ≡ finding method n (cond broken (folded 0 v) v)
-  plain-found z e = rw (not-true broken z) e
+joined-some : (b : ℕ) (g t : List ℕ) → isEmpty (joined (b ∷ g) ++ t) ≡ false
+unfolding joined isEmpty
+joined-some b g t = go (any isBreak (b ∷ g))
+  where
+    go : (x : Bool) → isEmpty (cond x (32 ∷ []) (b ∷ g) ++ t) ≡ false
+    go true = refl
+    go false = refl
 
-  pub broken-found : not broken ≡ false → f ≡ finding method n (folded 0 v) → f ≡ finding method n (cond broken (folded 0 v) v)
-  broken-found z e = rw (not-false broken z) e
+folded-empty : (v : List ℕ) → isEmpty (folded 0 v) ≡ isEmpty v
+unfolding folded isEmpty run
+folded-empty [] = refl
+folded-empty (b ∷ s) = go (isGap b) refl
+  where
+    go : (t : Bool) → isGap b ≡ t → isEmpty (folded 0 (b ∷ s)) ≡ false
+    go true q =
+        let r : run isGap (b ∷ s) ≡ suc (run isGap s) = rw q in
+        rw (folded-run (b ∷ s), r) (joined-some b (take (run isGap s) s) (folded 0 (drop (run isGap s) s)))
+    go false q = rw (folded-byte b s q)
+
+-- no reader is asked of a number that is not in a set of those that are read
+module _ (method : List ℕ) (n : ℕ) (v : List ℕ) (set : ℕ) {b : Bool} (e : b ≡ has set n) (q : not b ≡ true) where
+  not-read : (k : ℕ) → has set k ≡ true → n ≡ k → ⊥
+  not-read k h z = let x : has set n ≡ false = sym e ∙ not-true b q in never (cc)
+
+  pub unread-found : has set 2 ≡ true → has set 3 ≡ true → has set 4 ≡ true → has set 5 ≡ true → has set 6 ≡ true → has set 8 ≡ true
+      → has set 14 ≡ true → has set 15 ≡ true → has set 16 ≡ true → {f : Finding} → f ≡ filled n v → f ≡ finding method n (folded 0 v)
+  unread-found h2 h3 h4 h5 h6 h8 h14 h15 h16 d =
+      other method n (folded 0 v) (not-read 2 h2) (not-read 3 h3) (not-read 4 h4) (not-read 5 h5) (not-read 6 h6) (not-read 8 h8) (not-read 14 h14)
+      (not-read 15 h15) (not-read 16 h16) (d ∙ rw (folded-empty v))
 
 -- ---- a slot is taken up
 
@@ -65,15 +93,30 @@ module _ (method m : List ℕ) (kept : ℕ) (t : Tally) (s : Slot) {b : Bool} (e
     pub low : kept < 2 ^ 32 → s .number < 32
     low h = has-low 32 kept (s .number) h held
 
-    pub taken : {v : List ℕ} → v ≡ take (s .len) (drop (s .start) m) → {f : Finding}
-        → f ≡ finding method (s .number) (cond (s .folded) (folded 0 v) v) → {r : Tally} → r ≡ noted t (s .number) f → r ≡ takenUp method kept m t s
-    unfolding takenUp valueAt
-    taken hv d h = rw (held, ← hv, ← d) h
+    module _ {v : List ℕ} (hv : v ≡ take (s .len) (drop (s .start) m)) {r : Tally} where
+      pub taken-plain : s .folded ≡ false → r ≡ noted t (s .number) (finding method (s .number) v) → r ≡ takenUp method kept m t s
+      unfolding takenUp valueAt
+      taken-plain z h = rw (held, ← hv, z) h
 
-pub tags-bound : (t : Tally) (n : ℕ) (f : Finding) {r : Tally} → r ≡ noted t n f → f .len ≤ 108191 → r .tags ≤ t .tags + 108191
-tags-bound t n f e l = rw e (omega (arith, tags-grow t n f))
+      pub taken-folded : s .folded ≡ true → {f : Finding} → f ≡ finding method (s .number) (folded 0 v) → r ≡ noted t (s .number) f
+          → r ≡ takenUp method kept m t s
+      unfolding takenUp valueAt
+      taken-folded z d h = rw (held, ← hv, z, ← d) h
+
+module _ (method m : List ℕ) (short : length m ≤ 8192) (t : Tally) (s : Slot) {v : List ℕ} (hv : v ≡ take (s .len) (drop (s .start) m)) where
+  value-le : length v ≤ 8192
+  value-le = rw hv (omega (arith, length-take (s .len) (drop (s .start) m), length-drop (s .start) m))
+
+  pub plain-tags : {r : Tally} → r ≡ noted t (s .number) (finding method (s .number) v) → r .tags ≤ t .tags + 8192
+  plain-tags h = rw h (omega (arith, value-le, tags-grow method t (s .number) v))
+
+  pub folded-tags : {r : Tally} {f : Finding} → f ≡ finding method (s .number) (folded 0 v) → r ≡ noted t (s .number) f → r .tags ≤ t .tags + 8192
+  folded-tags d h = rw (h, d) (omega (arith, value-le, folded-le v, tags-grow method t (s .number) (folded 0 v)))
 
 -- ---- all slots
+
+pub fits : (m ns : List ℕ) (i : ℕ) {s : Slot} → s ≡ slotAt ns i → Within m ns → s .start + s .len ≤ length m
+fits m ns i e h = rw e (h i)
 
 module _ (method m : List ℕ) (kept : ℕ) (ns : List ℕ) where
   one-more : (t : Tally) (k i : ℕ)
@@ -106,6 +149,6 @@ module _ (method m : List ℕ) (kept : ℕ) (ns : List ℕ) where
           = one-more t (count - j) i ∙ rw (eu, es) (ap (λ (k : ℕ). tallied method (takenUp method kept m t (slotAt ns i)) (entriesFrom kept m ns (count - j) k)) (sym y)) in
           h ∙ ap (λ (k : ℕ). tallied method t (entriesFrom kept m ns k i)) z ∙ x
 
-      pub ended : count ≤ i → t ≡ whole
+      pub ended : count ≤ i → {n : ℕ} → count ≡ n → t ≡ tallied method noTally (entriesFrom kept m ns n 0)
       unfolding entriesFrom tallied
-      ended l = let z : count - i ≡ 0 = omega arith in sym (rw z at h)
+      ended l e = let z : count - i ≡ 0 = omega arith in rw (← e) (sym (rw z at h))

@@ -6,6 +6,8 @@ pub mod Good
 pub mod Each
 pub mod Totals
 pub mod Firsts
+pub mod Found
+pub mod Noted
 pub mod Required
 pub mod Kept
 pub mod Decisions

@@ -13,7 +13,7 @@ use lib.Pow.{pow-lt, pow-mono}
 use borrow.Author.Tests.{eq-eqb, ne-eqb, eqb-true, ltb-true, ltb-false, not-false}
 use Rattle.sip.specs.Refusals.{headOr}
 use Rattle.sip.proofs.Tests.{never}
-use Rattle.judgement.specs.Sets.{has}
+use Rattle.judgement.specs.Sets.{has, pick}
 
 -- ---- one bit
 
@@ -129,11 +129,6 @@ has-without (suc w) m s (suc n) hm hs =
 unfoldable pub from : ℕ → ℕ → List ℕ
 from n zero = []
 from n (suc k) = n ∷ from (suc n) k
-
--- those of the numbers that pass the test
-unfoldable pub pick : (ℕ → Bool) → List ℕ → List ℕ
-pick p [] = []
-pick p (n ∷ ns) = let others = pick p ns in cond (p n) (n ∷ others) others
 
 module _ (p : ℕ → Bool) where
   -- the test at n and after it is the mask's lowest bit and its half

@@ -11,23 +11,20 @@ use lib.Count.{ones, trailingZeros}
 use lib.Dec.{eqb}
 use lib.ListN.{length}
 use borrow.Author.Tests.{eqb-true, not-true}
+use Rattle.octets.specs.Classes.{among}
 use Rattle.sip.specs.declared.Column.{Column}
 use Rattle.sip.specs.Profile.{Mark, I, Row, rows, find, once, mark, isIgnored, ignored, isMandatory, mandatory, numbers}
 use Rattle.sip.specs.Refusals.{Entry, occurs, missingOf, headOr}
-use Rattle.sip.proofs.Tests.{never, and-left, and-right}
+use Rattle.sip.proofs.Tests.{never, and-left, and-right, eqb-turned}
 use Rattle.judgement.specs.declared.Lack.{Lack}
-use Rattle.judgement.specs.Sets.{has, setOf, keptSet, mandatorySet, onceSet, lackOf, lackAt}
-use Rattle.judgement.proofs.Masks.{has-none, has-plus, has-without, from, pick, Shown, count-is, lowest-is}
+use Rattle.judgement.specs.Sets.{has, setOf, keptSet, mandatorySet, onceSet, pick, lackOf, lackAt}
+use Rattle.judgement.proofs.Masks.{has-none, has-plus, has-without, from, Shown, count-is, lowest-is}
 
 -- ---- the set of a list of numbers
 
-abbrev pub isAmong : ℕ → List ℕ → Bool
-isAmong k [] = false
-isAmong k (n ∷ ns) = eqb n k || isAmong k ns
-
 abbrev isDistinct : List ℕ → Bool
 isDistinct [] = true
-isDistinct (n ∷ ns) = not (isAmong n ns) && isDistinct ns
+isDistinct (n ∷ ns) = not (among ns n) && isDistinct ns
 
 module _ (p : ℕ → Bool) (n : ℕ) (s : ℕ) (isIn : ℕ → Bool) (new : not (isIn n) ≡ true) (others : (k : ℕ) → has s k ≡ (isIn k && p k)) where
   added : (k : ℕ) → has (2 ^ n + s) k ≡ (eqb n k || (isIn k && p k))
@@ -42,23 +39,24 @@ module _ (p : ℕ → Bool) (n : ℕ) (s : ℕ) (isIn : ℕ → Bool) (new : not
       go false true q e = let w : p k ≡ false = rw (eqb-true n k e) at q in others k ∙ rw w (and-false (isIn k))
       go false false q e = others k
 
-has-set : (p : ℕ → Bool) (ns : List ℕ) (k : ℕ) → isDistinct ns ≡ true → has (setOf p ns) k ≡ (isAmong k ns && p k)
+has-set : (p : ℕ → Bool) (ns : List ℕ) (k : ℕ) → isDistinct ns ≡ true → has (setOf p ns) k ≡ (among ns k && p k)
 unfolding setOf
 has-set p [] k d = has-none k
 has-set p (n ∷ ns) k d =
-    has-one p n (setOf p ns) (λ (j : ℕ). isAmong j ns) (and-left (not (isAmong n ns)) (isDistinct ns) d)
-    (λ j. has-set p ns j (and-right (not (isAmong n ns)) (isDistinct ns) d)) k
+    rw (eqb-turned k n)
+    (has-one p n (setOf p ns) (λ (j : ℕ). among ns j) (and-left (not (among ns n)) (isDistinct ns) d)
+    (λ j. has-set p ns j (and-right (not (among ns n)) (isDistinct ns) d)) k)
 
 -- ---- the profile's numbers
 
 -- no row has a number that is not listed
-pub find-none : (rs : List Row) (k : ℕ) → isAmong k (map (λ (r : Row). r .number) rs) ≡ false → find rs k ≡ none
+pub find-none : (rs : List Row) (k : ℕ) → among (map (λ (r : Row). r .number) rs) k ≡ false → find rs k ≡ none
 unfolding find
 find-none [] k e = refl
-find-none (r ∷ rs) k e = go (eqb (r .number) k) e (find-none rs k)
+find-none (r ∷ rs) k e = go (eqb (r .number) k) (rw (eqb-turned k (r .number)) at e) (find-none rs k)
   where
-    go : (t : Bool) → (t || isAmong k (map (λ (r : Row). r .number) rs)) ≡ false
-        → (isAmong k (map (λ (r : Row). r .number) rs) ≡ false → find rs k ≡ none) → cond t (some r) (find rs k) ≡ none
+    go : (t : Bool) → (t || among (map (λ (r : Row). r .number) rs) k) ≡ false
+        → (among (map (λ (r : Row). r .number) rs) k ≡ false → find rs k ≡ none) → cond t (some r) (find rs k) ≡ none
     go true e f = never (cc)
     go false e f = f e
 
@@ -70,9 +68,9 @@ distinct = refl
 module _ (p : ℕ → Bool) (unlisted : (k : ℕ) → find rows k ≡ none → p k ≡ false) where
   has-listed : (k : ℕ) → has (setOf p numbers) k ≡ p k
   unfolding numbers
-  has-listed k = has-set p numbers k distinct ∙ go (isAmong k numbers) refl
+  has-listed k = has-set p numbers k distinct ∙ go (among numbers k) refl
     where
-      go : (t : Bool) → isAmong k numbers ≡ t → (t && p k) ≡ p k
+      go : (t : Bool) → among numbers k ≡ t → (t && p k) ≡ p k
       go true e = refl
       go false e = sym (unlisted k (find-none rows k e))
 
@@ -117,11 +115,6 @@ module _ (c : Column) (empty : Bool) (seen : ℕ) where
   abbrev isLacking : ℕ → Bool
   isLacking n = mandatory c empty n && not (has seen n)
 
-  lack-pick : (ns : List ℕ) → lackOf c empty seen ns ≡ pick isLacking ns
-  unfolding lackOf pick
-  lack-pick [] = refl
-  lack-pick (n ∷ ns) = rw (lack-pick ns)
-
   zero-out : (ns : List ℕ) → pick isLacking (0 ∷ ns) ≡ pick isLacking ns
   unfolding pick mandatory mark find rows
   zero-out ns = refl
@@ -130,10 +123,10 @@ module _ (c : Column) (empty : Bool) (seen : ℕ) where
   unfolding from pick mandatory mark find rows
   past-out = refl
 
-  lack-all : pick isLacking (from 0 32) ≡ lackOf c empty seen numbers
+  lack-all : pick isLacking (from 0 32) ≡ lackOf c empty seen
   lack-all =
       ap (pick isLacking) listed ∙ zero-out (numbers ++ from 19 13) ∙ pick-append isLacking numbers (from 19 13)
-      ∙ rw (past-out, append-nil (pick isLacking numbers)) (sym (lack-pick numbers))
+      ∙ rw (past-out, append-nil (pick isLacking numbers))
 
   module _ (hs : seen < 2 ^ 32) {m : ℕ} (hm : m < 2 ^ 32) (e : m ≡ mandatorySet c empty) where
     left : ℕ
@@ -152,15 +145,15 @@ module _ (c : Column) (empty : Bool) (seen : ℕ) where
               rw z (sym (has-without 32 m seen j hm hs ∙ rw (e, mandatory-has c empty j)));
         }
 
-    count : ones left ≡ length (lackOf c empty seen numbers)
+    count : ones left ≡ length (lackOf c empty seen)
     count = rw (← lack-all) (count-is isLacking 32 0 left left-lt shown)
 
-    lowest : (left ≡ 0 → ⊥) → trailingZeros 32 left ≡ headOr 0 (lackOf c empty seen numbers)
+    lowest : (left ≡ 0 → ⊥) → trailingZeros 32 left ≡ headOr 0 (lackOf c empty seen)
     lowest n = rw (← lack-all) (sym (zero-add (trailingZeros 32 left)) ∙ lowest-is isLacking 32 0 left 0 left-lt n shown)
 
     pub lacks-none : bitAnd m (2 ^ 32 - 1 - seen) ≡ 0 → record { count = 0; lowest = 0 } ≡ lackAt c empty seen
     unfolding lackAt left ones
-    lacks-none z = go (lackOf c empty seen numbers) (rw z at count)
+    lacks-none z = go (lackOf c empty seen) (rw z at count)
       where
         go : (ns : List ℕ) → 0 ≡ length ns → _≡_ {A = Lack} (record { count = 0; lowest = 0 }) (record { count = length ns; lowest = headOr 0 ns })
         go [] q = refl
@@ -173,10 +166,10 @@ module _ (c : Column) (empty : Bool) (seen : ℕ) where
 
 -- where the set has just what occurs, just that is missing which does not occur
 pub lack-missing : (c : Column) (empty : Bool) (seen : ℕ) (es : List Entry) → ((n : ℕ) → has seen n ≡ occurs n es)
-    → lackOf c empty seen numbers ≡ missingOf c empty es numbers
-unfolding lackOf missingOf
+    → lackOf c empty seen ≡ missingOf c empty es numbers
+unfolding pick missingOf
 lack-missing c empty seen es h = go numbers
   where
-    go : (ns : List ℕ) → lackOf c empty seen ns ≡ missingOf c empty es ns
+    go : (ns : List ℕ) → pick (λ (n : ℕ). mandatory c empty n && not (has seen n)) ns ≡ missingOf c empty es ns
     go [] = refl
     go (n ∷ ns) = rw (h n, go ns)

@@ -15,6 +15,7 @@ use Rattle.lines.specs.Index.{indexOf, index}
 use Rattle.lines.proofs.Within.{slots-within}
 use Rattle.judgement.specs.declared.Refusal.{Refusal}
 use Rattle.judgement.specs.declared.Judged.{Judged}
+use Rattle.judgement.specs.Entries.{Within}
 use Rattle.judgement.specs.Judged.{refusedFor, judgedLines, judgedMessage}
 use Rattle.judgement.specs.Judges.{Judges}
 use Rattle.judgement.proofs.Parts.{parts}
@@ -130,3 +131,6 @@ module _ (m : List ℕ) where
 
       pub rest-within : h .rest ≤ length m
       rest-within = rw e (reads head-read .rest-within)
+
+  pub within : {ns : List ℕ} → ns ≡ index m .slots → Within m ns
+  within hs = λ i. rw hs (slots-within m i)

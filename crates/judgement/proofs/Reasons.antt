@@ -15,15 +15,15 @@ use Rattle.sip.specs.declared.Column.{Column}
 use Rattle.sip.specs.declared.Column.the-variants.{Invite, Reinvite, Ack, Bye, Cancel, Options}
 use Rattle.sip.specs.Lines.{Start}
 use Rattle.sip.specs.Profile.{columnOf, numbers}
-use Rattle.sip.specs.Values.{isEmpty, uri, person, isCalled}
-use Rattle.sip.specs.Refusals.{Answer, refusal, when, firstOf, Entry, contentLength, bodyOf, exceeds, missingOf, headOr, firstRepeat, firstMalformed}
+use Rattle.sip.specs.Values.{isEmpty}
+use Rattle.sip.specs.Refusals.{Answer, refusal, when, firstOf, Entry, contentLength, bodyOf, exceeds, missingOf, headOr, firstRepeat, firstMalformed, isInitial}
 use Rattle.sip.specs.Refusals.{reason7, reason8, reason9, reason10, reason11, reason12, reason13, reason14, reason15, reasons}
 use Rattle.sip.proofs.Tests.{never}
 use Rattle.values.specs.Answers.{requestUri}
 use Rattle.judgement.specs.declared.Tally.{Tally}
 use Rattle.judgement.specs.Sets.{has, lackOf, lackAt}
 use Rattle.judgement.specs.Tallies.{noTally, tallied}
-use Rattle.judgement.specs.Judged.{bodyLength, tooLong, hopless, initial, columnTagged, early, late, decided}
+use Rattle.judgement.specs.Judged.{bodyLength, tooLong, hopless, columnTagged, early, late, decided}
 use Rattle.judgement.proofs.Members.{lack-missing}
 use Rattle.judgement.proofs.Each.{Each, Listed, WellFormed, well-formed}
 use Rattle.judgement.proofs.Totals.{total-seen, total-again, total-malformed}
@@ -109,7 +109,7 @@ module _ (l : Start) (es : List Entry) (rest : List ℕ) where
       empty-is = take-empty (bodyLength all (length rest)) rest body-there ∙ ap isEmpty (sym body-is)
 
       module _ (c : Column) where
-        lack-is : lackOf c (eqb (bodyLength all (length rest)) 0) (all .seen) numbers ≡ missingOf c (isEmpty (bodyOf es rest)) es numbers
+        lack-is : lackOf c (eqb (bodyLength all (length rest)) 0) (all .seen) ≡ missingOf c (isEmpty (bodyOf es rest)) es numbers
         lack-is = rw empty-is (lack-missing c (isEmpty (bodyOf es rest)) (all .seen) es (total-seen (l .method) es))
 
         reason12-is : when (not (eqb (lackAt c (eqb (bodyLength all (length rest)) 0) (all .seen) .count) 0))
@@ -127,17 +127,9 @@ module _ (l : Start) (es : List Entry) (rest : List ℕ) where
         unfolding reason14
         reason14-is = rw (total-lacking (l .method) es)
 
-        reason15-is : when (initial c && not (requestUri (l .uri) .called)) (refusal 15 484 0 0) ≡ reason15 c l
+        reason15-is : when (isInitial c && not (requestUri (l .uri) .called)) (refusal 15 484 0 0) ≡ reason15 c l
         unfolding reason15 requestUri
-        reason15-is = go c
-          where
-            go : (d : Column) → when (initial d && not (isCalled (person (uri (l .uri)) (l .uri)))) (refusal 15 484 0 0) ≡ reason15 d l
-            go Invite = refl
-            go Reinvite = refl
-            go Ack = refl
-            go Bye = refl
-            go Cancel = refl
-            go Options = refl
+        reason15-is = refl
 
   module _ (listed : Listed es) (c : Column) where
     formed-of : reason10 l es ≡ none → Each (WellFormed (l .method)) es
@@ -161,7 +153,7 @@ module _ (l : Start) (es : List Entry) (rest : List ℕ) where
     reason11-is formed = rw (too-long formed)
 
     abbrev column : Column
-    column = columnTagged c (all .tagged)
+    column = columnTagged c (not (eqb (all .tagged) 0))
 
     alike : Alike (decided c all (requestUri (l .uri)) (length rest)) (reasons column l es rest)
     unfolding decided early late reasons reason7 reason8 requestUri

@@ -6,13 +6,14 @@ use Prim.Native.Nat.{ℕ, _<_}
 use lib.Dec.{eqb}
 use native.Mathlib.Omega.{arith}
 use borrow.Author.Tests.{ne-eqb, eqb-true}
+use Rattle.octets.specs.Classes.{among}
 use Rattle.sip.specs.Profile.{once}
 use Rattle.sip.specs.Refusals.{Entry, occurs, firstRepeat, wellFormed, firstMalformed}
+use Rattle.sip.proofs.Tests.{eqb-turned}
 use Rattle.judgement.specs.declared.Tally.{Tally}
 use Rattle.judgement.specs.Sets.{has}
 use Rattle.judgement.specs.Tallies.{finding, orElse, noted, noTally, tallied}
 use Rattle.judgement.proofs.Masks.{has-none, has-with}
-use Rattle.judgement.proofs.Members.{isAmong}
 use Rattle.judgement.proofs.Good.{good}
 use Rattle.judgement.proofs.Each.{Listed}
 
@@ -67,13 +68,13 @@ module _ (method : List ℕ) where
   seen-is t (e ∷ es) k =
       seen-is (next t e) es k ∙ rw (seen-next t e k) (or-swap (occurs k es) (eqb (e .number) k) (has (t .seen) k))
 
-  again-is : (t : Tally) (earlier : List ℕ) (es : List Entry) → Listed es → ((k : ℕ) → has (t .seen) k ≡ isAmong k earlier)
+  again-is : (t : Tally) (earlier : List ℕ) (es : List Entry) → Listed es → ((k : ℕ) → has (t .seen) k ≡ among earlier k)
       → tallied method t es .again ≡ orElse (t .again) (firstRepeat earlier es)
   unfolding tallied firstRepeat noted
   again-is t earlier [] n h = sym (else-none (t .again))
   again-is t earlier (e ∷ es) n h =
-      again-is (next t e) (e .number ∷ earlier) es (n .1) (λ k. seen-next t e k ∙ rw (h k))
-      ∙ rw (h (e .number)) (else-assoc (t .again) (cond (once (e .number) && isAmong (e .number) earlier) (e .number) 0) (firstRepeat (e .number ∷ earlier) es)
+      again-is (next t e) (e .number ∷ earlier) es (n .1) (λ k. seen-next t e k ∙ rw (eqb-turned (e .number) k, h k))
+      ∙ rw (h (e .number)) (else-assoc (t .again) (cond (once (e .number) && among earlier (e .number)) (e .number) 0) (firstRepeat (e .number ∷ earlier) es)
       ∙ rw (else-first, n .0))
 
   malformed-is : (t : Tally) (es : List Entry) → Listed es

@@ -1,13 +1,18 @@
 -- The kept fields of a message, out of the slots that reading it left.
 use mathlib.Core.Bool.{cond}
 use mathlib.Core.List.{List, [], _∷_}
-use Prim.Native.Nat.{ℕ, zero, suc}
+use Prim.Native.Nat.{ℕ, zero, suc, _+_, _≤_}
+use lib.ListN.{length}
 use Rattle.sip.specs.Lines.{folded}
 use Rattle.sip.specs.Refusals.{Entry}
 use Rattle.sip.specs.Readings.{part}
 use Rattle.lines.specs.declared.Slot.{Slot}
 use Rattle.lines.specs.Index.{slotAt}
 use Rattle.judgement.specs.Sets.{has}
+
+-- every slot lies within the message
+abbrev pub Within : List ℕ → List ℕ → Type 0
+Within m slots = (i : ℕ) → slotAt slots i .start + slotAt slots i .len ≤ length m
 
 -- the value that a slot speaks of, in its canonical form
 unfoldable pub valueAt : List ℕ → Slot → List ℕ

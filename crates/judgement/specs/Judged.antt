@@ -9,7 +9,7 @@ use Rattle.octets.specs.Classes.{text}
 use Rattle.octets.specs.Scans.{same}
 use Rattle.sip.specs.declared.Column.{Column}
 use Rattle.sip.specs.declared.Column.the-variants.{Invite, Reinvite, Ack, Bye, Cancel, Options}
-use Rattle.sip.specs.Refusals.{Answer, refusal, when, firstOf}
+use Rattle.sip.specs.Refusals.{Answer, refusal, when, isInitial, firstOf}
 use Rattle.sip.specs.Readings.{noSpan}
 use Rattle.lines.specs.declared.Slot.{Slot}
 use Rattle.lines.specs.declared.Message.{Message}
@@ -43,14 +43,6 @@ tooLong t rest = has (t .seen) 8 && ltb rest (t .length)
 unfoldable pub hopless : Tally → Bool
 hopless t = has (t .seen) 2 && eqb (t .hops) 0
 
-abbrev pub initial : Column → Bool
-initial Invite = true
-initial Reinvite = false
-initial Ack = false
-initial Bye = false
-initial Cancel = false
-initial Options = false
-
 -- the column of a request whose To has a tag or not
 abbrev pub columnTagged : Column → Bool → Column
 columnTagged Invite tagged = cond tagged Reinvite Invite
@@ -77,11 +69,11 @@ late c t u body =
     when (not (eqb (lack .count) 0)) (refusal 12 400 (lack .lowest) (lack .count))
     ∷ when (hopless t) (refusal 13 483 0 0)
     ∷ when (not (eqb (t .lacking) 0)) (refusal 14 420 (t .lacking) 0)
-    ∷ when (initial c && not (u .called)) (refusal 15 484 0 0)
+    ∷ when (isInitial c && not (u .called)) (refusal 15 484 0 0)
     ∷ []
 
 unfoldable pub decided : Column → Tally → RequestUri → ℕ → List (Option Answer)
-decided c t u rest = early t u rest ++ late (columnTagged c (t .tagged)) t u (bodyLength t rest)
+decided c t u rest = early t u rest ++ late (columnTagged c (not (eqb (t .tagged) 0))) t u (bodyLength t rest)
 
 -- ---- the answer
 
@@ -123,7 +115,7 @@ judgedBy h c method u t rest =
       kept = keptSet c;
       hops = t .hops;
       body = bodyLength t rest;
-      withheld = t .withheld;
+      withheld = not (eqb (t .withheld) 0);
       tag = t .tag;
       number = t .number;
     }

@@ -12,11 +12,10 @@ use Rattle.sip.specs.Profile.{columnOf, ignored}
 use Rattle.sip.specs.Readings.{noSpan, part}
 use Rattle.sip.specs.Values.{tagOf}
 use Rattle.sip.specs.Refusals.{refusal, read, lines, Entry, valueOf, keptOf, withheld, Request, refused, accepted, judgement}
-use Rattle.lines.specs.Index.{slotAt}
 use Rattle.values.specs.Answers.{identityAt}
 use Rattle.judgement.specs.declared.Judged.{Judged}
 use Rattle.judgement.specs.Sets.{has}
-use Rattle.judgement.specs.Entries.{entriesFrom}
+use Rattle.judgement.specs.Entries.{Within, entriesFrom}
 
 -- this is so of one field: what Max-Forwards says, and where the tag stands in From
 pub record Tells (hops : ℕ) (tag : Span) (e : Entry) : Type 0 where
@@ -37,7 +36,7 @@ pub record Passes (m slots : List ℕ) (r : Judged) : Type 0 where
   pub is-read : lines m ≡ read (request .line) header
   pub short : length m ≤ 8192
   pub few : r .count ≤ 96
-  pub within : (i : ℕ) → slotAt slots i .start + slotAt slots i .len ≤ length m
+  pub within : Within m slots
   pub method-long : r .method ≡ length (request .line .method)
   pub uri-long : r .uri ≡ length (request .line .uri)
   pub line-within : r .method + 1 + r .uri ≤ length m

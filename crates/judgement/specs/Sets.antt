@@ -42,13 +42,15 @@ columnFound (some c) = Is c
 unfoldable pub columnAt : List ℕ → ColumnOf
 columnAt method = columnFound (columnOf method false)
 
+-- those of the numbers that pass the test
+unfoldable pub pick : (ℕ → Bool) → List ℕ → List ℕ
+pick p [] = []
+pick p (n ∷ ns) = let others = pick p ns in cond (p n) (n ∷ others) others
+
 -- the mandatory numbers that are not in the set
-unfoldable pub lackOf : Column → Bool → ℕ → List ℕ → List ℕ
-lackOf c empty seen [] = []
-lackOf c empty seen (n ∷ ns) =
-    let others = lackOf c empty seen ns in
-    cond (mandatory c empty n && not (has seen n)) (n ∷ others) others
+abbrev pub lackOf : Column → Bool → ℕ → List ℕ
+lackOf c empty seen = pick (λ (n : ℕ). mandatory c empty n && not (has seen n)) numbers
 
 -- "the missing count says how many numbers are missing", and the lowest of them
 unfoldable pub lackAt : Column → Bool → ℕ → Lack
-lackAt c empty seen = let ns = lackOf c empty seen numbers in record { count = length ns; lowest = headOr 0 ns }
+lackAt c empty seen = let ns = lackOf c empty seen in record { count = length ns; lowest = headOr 0 ns }

@@ -1,5 +1,5 @@
 -- What a pass over the kept fields carries, and how one field changes it.
-use mathlib.Core.Bool.{Bool, true, false, not, cond, _&&_, _||_}
+use mathlib.Core.Bool.{Bool, true, not, cond, _&&_, _||_}
 use mathlib.Core.List.{List, [], _∷_}
 use Prim.Native.Nat.{ℕ, _+_, _^_}
 use lib.Bits.{bitOr}
@@ -13,29 +13,33 @@ use Rattle.judgement.specs.declared.Finding.{Finding}
 use Rattle.judgement.specs.declared.Tally.{Tally}
 use Rattle.judgement.specs.Sets.{has}
 
-abbrev pub found : Bool → Bool → ℕ → ℕ → Finding
-found good flag start len = record { good = good; flag = flag; start = start; len = len }
+abbrev pub found : Bool → ℕ → ℕ → Finding
+found good start len = record { good = good; start = start; len = len }
+
+-- Via, Contact, Content-Type, Route, Reason and Record-Route: any value that is not empty
+abbrev pub onlyFilled : ℕ → Bool
+onlyFilled n = eqb n 1 || (eqb n 7 || (eqb n 9 || (eqb n 10 || (eqb n 11 || eqb n 18))))
 
 -- what is found in the value v of a field of number n
 unfoldable pub finding : List ℕ → ℕ → List ℕ → Finding
 finding method n v =
     let hops = wholeNumber 3 255 v in
-    let length = wholeNumber 5 99999 v in
+    let cut = wholeNumber 5 99999 v in
     let p = party v in
     let privacy = privacyAt v in
     let tags = requireAt v in
     let number = identityAt v in
-    cond (eqb n 1 || (eqb n 7 || (eqb n 9 || (eqb n 10 || (eqb n 11 || eqb n 18))))) (found (not (isEmpty v)) false 0 0)
-    (cond (eqb n 2) (found (not (eqb (hops .size) 0)) false 0 (hops .value))
-    (cond (eqb n 3) (found (p .good && not (eqb (p .len) 0)) false (p .tag) (p .len))
-    (cond (eqb n 4) (found (p .good) (not (eqb (p .len) 0)) 0 0)
-    (cond (eqb n 5) (found (isCallId v) false 0 0)
-    (cond (eqb n 6) (found (isCSeq method v) false 0 0)
-    (cond (eqb n 8) (found (not (eqb (length .size) 0)) false 0 (length .value))
-    (cond (eqb n 14) (found (tags .good) false (tags .first) (tags .count))
-    (cond (eqb n 15) (found (not (eqb (number .len) 0)) false (number .start) (number .len))
-    (cond (eqb n 16) (found (privacy .good) (not (eqb (privacy .first) 0)) 0 0)
-    (found true false 0 0))))))))))
+    cond (onlyFilled n) (found (not (isEmpty v)) 0 0)
+    (cond (eqb n 2) (found (not (eqb (hops .size) 0)) 0 (hops .value))
+    (cond (eqb n 3) (found (p .good && not (eqb (p .len) 0)) (p .tag) (p .len))
+    (cond (eqb n 4) (found (p .good) 0 (p .len))
+    (cond (eqb n 5) (found (isCallId v) 0 0)
+    (cond (eqb n 6) (found (isCSeq method v) 0 0)
+    (cond (eqb n 8) (found (not (eqb (cut .size) 0)) 0 (cut .value))
+    (cond (eqb n 14) (found (tags .good) (tags .first) (tags .count))
+    (cond (eqb n 15) (found (not (eqb (number .len) 0)) (number .start) (number .len))
+    (cond (eqb n 16) (found (privacy .good) (privacy .first) 0)
+    (found true 0 0))))))))))
 
 -- a, or b where a is 0
 abbrev pub orElse : ℕ → ℕ → ℕ
@@ -53,8 +57,8 @@ noted t n f =
       again = orElse (t .again) (cond (once n && has (t .seen) n) n 0);
       malformed = orElse (t .malformed) (cond (f .good) 0 n);
       hops = cond (isFirst t 2 n) (f .len) (t .hops);
-      tagged = cond (isFirst t 4 n) (f .flag) (t .tagged);
-      withheld = cond (isFirst t 16 n) (f .flag) (t .withheld);
+      tagged = cond (isFirst t 4 n) (f .len) (t .tagged);
+      withheld = cond (isFirst t 16 n) (f .start) (t .withheld);
       length = cond (isFirst t 8 n) (f .len) (t .length);
       tags = cond (eqb n 14) (t .tags + f .len) (t .tags);
       lacking = cond (eqb n 14) (orElse (t .lacking) (cond (eqb (f .start) 0) 0 (t .tags + f .start))) (t .lacking);
@@ -103,8 +107,8 @@ said t n f =
       again = t .again;
       malformed = t .malformed;
       hops = cond (eqb n 2) (f .len) (t .hops);
-      tagged = cond (eqb n 4) (f .flag) (t .tagged);
-      withheld = cond (eqb n 16) (f .flag) (t .withheld);
+      tagged = cond (eqb n 4) (f .len) (t .tagged);
+      withheld = cond (eqb n 16) (f .start) (t .withheld);
       length = cond (eqb n 8) (f .len) (t .length);
       tags = t .tags;
       lacking = t .lacking;
@@ -119,8 +123,8 @@ noTally =
       again = 0;
       malformed = 0;
       hops = 0;
-      tagged = false;
-      withheld = false;
+      tagged = 0;
+      withheld = 0;
       length = 0;
       tags = 0;
       lacking = 0;

@@ -19,38 +19,37 @@ pub struct Refusal {
 }
 
 // The column of a method, the initial one for an INVITE.
-pub enum ColumnOf {
+pub(crate) enum ColumnOf {
     Is(sip::Column),
     Unknown,
 }
 
 // Which mandatory fields are missing: how many, and the lowest number (0: none is).
-pub struct Lack {
+pub(crate) struct Lack {
     pub count: u64,
     pub lowest: u64,
 }
 
 // What is found in one kept value: whether it is well formed, and what later reasons ask of it.
-// Max-Forwards: len is what it says. To: flag: it has a tag. Privacy: flag: it withholds the caller.
-// From: where its tag stands. Content-Length: len is what it says. Require: start is the place of the first tag that we lack (0: none),
-// len the number of tags. P-Asserted-Identity: where its number stands.
-pub struct Finding {
+// Max-Forwards and Content-Length: len is what it says. From: where its tag stands. To: len is the length of its tag (0: none).
+// Require: start is the place of the first tag that we lack (0: none), len the number of tags. P-Asserted-Identity: where its number
+// stands. Privacy: start is the place of the first `id` (0: none).
+pub(crate) struct Finding {
     pub good: bool,
-    pub flag: bool,
     pub start: usize,
     pub len: usize,
 }
 
 // What the kept fields say so far: the set of numbers seen; the first that came again, the first malformed one; what the first
-// Max-Forwards, To, Privacy, Content-Length, From and P-Asserted-Identity say; the required tags counted, and the place of the first
-// that we lack.
-pub struct Tally {
+// Max-Forwards, To (the length of its tag), Privacy (the place of its `id`), Content-Length, From and P-Asserted-Identity say; the
+// required tags counted, and the place of the first that we lack. All are numbers: a bool among them is copied with its padding.
+pub(crate) struct Tally {
     pub seen: u32,
     pub again: usize,
     pub malformed: usize,
     pub hops: usize,
-    pub tagged: bool,
-    pub withheld: bool,
+    pub tagged: usize,
+    pub withheld: usize,
     pub length: usize,
     pub tags: usize,
     pub lacking: usize,

@@ -14,12 +14,12 @@ ghost use Prim.Native.Nat.{_+_, _-_, _≤_};
 ghost use lib.ListN.{length, take, drop};
 ghost use Rattle.octets.specs.Classes.{text};
 ghost use Rattle.octets.specs.Scans.{same};
-ghost use Rattle.sip.specs.Refusals.{firstOf};
+ghost use Rattle.sip.specs.Refusals.{isInitial, firstOf};
 ghost use Rattle.values.specs.Answers.{requestUri};
 ghost use Rattle.judgement.specs.Sets.{has, keptSet};
-ghost use Rattle.judgement.specs.Entries.{entriesFrom};
+ghost use Rattle.judgement.specs.Entries.{Within, entriesFrom};
 ghost use Rattle.judgement.specs.Tallies.{noTally, tallied};
-ghost use Rattle.judgement.specs.Judged.{bodyLength, tooLong, hopless, initial, columnTagged, early, late, decided, refusalOf, silenced, refusedFor, judgedBy, judgedLines};
+ghost use Rattle.judgement.specs.Judged.{bodyLength, tooLong, hopless, columnTagged, early, late, decided, refusalOf, silenced, refusedFor, judgedBy, judgedLines};
 
 pub(crate) fn refusal(reason: u64, reply: u64, detail: usize, missing: u64) -> Refusal
     ensures { λ r. ⌜ r ≡ record { reason = reason; reply = reply; detail = detail; missing = missing } ⌝ }
@@ -130,7 +130,7 @@ fn tagged_column(c: Column, tagged: bool) -> Column
 }
 
 fn is_initial(c: Column) -> bool
-    ensures { λ r. ⌜ r ≡ initial c ⌝ }
+    ensures { λ r. ⌜ r ≡ isInitial c ⌝ }
 {
     match c {
         Column::Invite => true,
@@ -195,7 +195,7 @@ fn decide(c: Column, t: Tally, u: RequestUri, rest: usize) -> Refusal
     if first.reason != 0 {
         return first;
     }
-    late(tagged_column(c, t.tagged), t, u, body_of(t, rest))
+    late(tagged_column(c, t.tagged != 0), t, u, body_of(t, rest))
 }
 
 // What the Request-URI of the start line is.
@@ -209,7 +209,7 @@ fn request_uri(message: &[u8], m: Message) -> RequestUri
 
 // A request of that column.
 fn judge_column(message: &[u8], m: Message, method: &[u8], c: Column, slots: &[u16; 384]) -> Judged
-    requires { ⌜ (length (now message) ≤ 8192) × (m .count ≤ 96) × (m .method ≤ 8192) × (m .rest ≤ length (now message)) ⌝ }
+    requires { ⌜ (length (now message) ≤ 8192) × (m .count ≤ 96) × (m .method ≤ 8192) × (m .rest ≤ length (now message)) × Within (now message) (now slots) ⌝ }
     ensures { λ r. ⌜
         r
         ≡ judgedBy m c (now (method .entry)) (requestUri (take (m .uri) (drop (m .method + 1) (now (message .entry)))))
@@ -233,7 +233,7 @@ fn judge_column(message: &[u8], m: Message, method: &[u8], c: Column, slots: &[u
         kept,
         hops: t.hops,
         body: body_of(t, rest),
-        withheld: t.withheld,
+        withheld: t.withheld != 0,
         tag,
         number,
     }
@@ -241,7 +241,7 @@ fn judge_column(message: &[u8], m: Message, method: &[u8], c: Column, slots: &[u
 
 // Reasons 6 to 15 of a message that was read.
 pub(crate) fn judge_read(message: &[u8], m: Message, slots: &[u16; 384]) -> Judged
-    requires { ⌜ (length (now message) ≤ 8192) × (m .count ≤ 96) × (m .method ≤ 8192) × (m .rest ≤ length (now message)) ⌝ }
+    requires { ⌜ (length (now message) ≤ 8192) × (m .count ≤ 96) × (m .method ≤ 8192) × (m .rest ≤ length (now message)) × Within (now message) (now slots) ⌝ }
     ensures { λ r. ⌜ r ≡ judgedLines (now (message .entry)) (now (slots .entry)) m ⌝ }
 {
     let method = octets::first(message, m.method);

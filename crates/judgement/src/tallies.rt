@@ -6,14 +6,14 @@ use super::sets;
 use lines::Slot;
 use sip::Span;
 ghost use mathlib.Core.Path.{_≡_};
-ghost use mathlib.Core.Bool.{cond, _&&_};
+ghost use mathlib.Core.Bool.{false, cond, _&&_};
 ghost use Prim.Native.Nat.{_+_, _≤_, _<_, _^_};
 ghost use lib.Dec.{eqb};
-ghost use lib.ListN.{length};
+ghost use lib.ListN.{length, take, drop};
 ghost use Rattle.sip.specs.Lines.{folded};
 ghost use Rattle.sip.specs.Profile.{once};
 ghost use Rattle.judgement.specs.Sets.{has};
-ghost use Rattle.judgement.specs.Entries.{entriesFrom};
+ghost use Rattle.judgement.specs.Entries.{Within, entriesFrom};
 ghost use Rattle.judgement.specs.Tallies.{finding, orElse, noted, counted, required, said, noTally, tallied};
 ghost use Rattle.judgement.specs.Judged.{takenUp};
 
@@ -37,11 +37,11 @@ fn again_of(again: usize, seen: u32, n: usize) -> usize
 fn malformed_of(malformed: usize, n: usize, good: bool) -> usize
     ensures { λ r. ⌜ r ≡ orElse malformed (cond good 0 n) ⌝ }
 {
-    if malformed != 0 {
+    if good {
         return malformed;
     }
-    if good {
-        return 0;
+    if malformed != 0 {
+        return malformed;
     }
     n
 }
@@ -101,7 +101,7 @@ fn say(t: Tally, n: usize, f: Finding) -> Tally
         return r;
     }
     if n == 4 {
-        r.tagged = f.flag;
+        r.tagged = f.len;
         return r;
     }
     if n == 8 {
@@ -117,7 +117,7 @@ fn say(t: Tally, n: usize, f: Finding) -> Tally
         return r;
     }
     if n == 16 {
-        r.withheld = f.flag;
+        r.withheld = f.start;
         return r;
     }
     r
@@ -136,6 +136,62 @@ fn note(t: Tally, n: usize, f: Finding) -> Tally
         return there;
     }
     say(there, n, f)
+}
+
+// What is noted of the first field of a number: it cannot come again.
+fn count_first(t: Tally, n: usize, good: bool) -> Tally
+    requires { ⌜ (n < 32) × (has (t .seen) n ≡ false) ⌝ }
+    ensures { λ r. ⌜ r ≡ counted t n good ⌝ }
+{
+    let mut r = t;
+    r.seen = sets::with_number(t.seen, n);
+    r.malformed = malformed_of(t.malformed, n, good);
+    r
+}
+
+// The tally with the first field of its number.
+fn note_first(t: Tally, n: usize, f: Finding) -> Tally
+    requires { ⌜ (n < 32) × (has (t .seen) n ≡ false) × (t .tags + f .len < 2 ^ 32) × (t .tags + f .start < 2 ^ 32) ⌝ }
+    ensures { λ r. ⌜ r ≡ noted t n f ⌝ }
+{
+    let there = count_first(t, n, f.good);
+    if n == 14 {
+        return require(there, f);
+    }
+    say(there, n, f)
+}
+
+// Takes up the first field of its number. In each arm the number is known, so that only what its field says is changed.
+fn take_first(method: &[u8], t: Tally, n: usize, v: &[u8]) -> Tally
+    requires { ⌜ (n < 32) × (has (t .seen) n ≡ false) × (length (now v) ≤ 8192) × (t .tags < 2 ^ 31) ⌝ }
+    ensures { λ r. ⌜ r ≡ noted t n (finding (now (method .entry)) n (now (v .entry))) ⌝ }
+{
+    match n {
+        2 => note_first(t, 2, findings::max_forwards(v)),
+        3 => note_first(t, 3, findings::from(v)),
+        4 => note_first(t, 4, findings::to(v)),
+        5 => note_first(t, 5, findings::call_id(v)),
+        6 => note_first(t, 6, findings::cseq(method, v)),
+        8 => note_first(t, 8, findings::content_length(v)),
+        14 => note_first(t, 14, findings::require(v)),
+        15 => note_first(t, 15, findings::identity(v)),
+        16 => note_first(t, 16, findings::privacy(v)),
+        _ => {
+            let f = findings::other(n, v);
+            count_first(t, n, f.good)
+        }
+    }
+}
+
+// Takes up a field by its canonical value.
+fn take_plain(method: &[u8], t: Tally, n: usize, v: &[u8]) -> Tally
+    requires { ⌜ (n < 32) × (length (now v) ≤ 8192) × (t .tags < 2 ^ 31) ⌝ }
+    ensures { λ r. ⌜ r ≡ noted t n (finding (now (method .entry)) n (now (v .entry))) ⌝ }
+{
+    if sets::in_set(t.seen, n) {
+        return note(t, n, findings::finding(method, n, v));
+    }
+    take_first(method, t, n, v)
 }
 
 // What is found in a value of at most 256 bytes with a line break in it.
@@ -158,13 +214,17 @@ fn finding_long(method: &[u8], n: usize, v: &[u8]) -> Finding
     findings::finding(method, n, octets::first(&scratch, len))
 }
 
-// What is found in the canonical form of a value, in which a line break stands or not.
-fn finding_in(method: &[u8], n: usize, v: &[u8], broken: bool) -> Finding
+// The fields whose values are read.
+const READ: u32 = 0b1_1100_0001_0111_1100;
+
+// What is found in the canonical form of a value with a line break in it. It is made only where it is read: a value is empty exactly
+// where its canonical form is.
+fn finding_folded(method: &[u8], n: usize, v: &[u8]) -> Finding
     requires { ⌜ length (now v) ≤ 8192 ⌝ }
-    ensures { λ r. ⌜ (r ≡ finding (now (method .entry)) n (cond broken (folded 0 (now (v .entry))) (now (v .entry)))) × (r .start ≤ 108191) × (r .len ≤ 108191) ⌝ }
+    ensures { λ r. ⌜ (r ≡ finding (now (method .entry)) n (folded 0 (now (v .entry)))) × (r .start ≤ 108191) × (r .len ≤ 108191) ⌝ }
 {
-    if !broken {
-        return findings::finding(method, n, v);
+    if !sets::in_set(READ, n) {
+        return findings::other(n, v);
     }
     if v.len() <= 256 {
         return finding_short(method, n, v);
@@ -172,17 +232,41 @@ fn finding_in(method: &[u8], n: usize, v: &[u8], broken: bool) -> Finding
     finding_long(method, n, v)
 }
 
+// The value that a slot speaks of, where it stands.
+fn value_of(message: &[u8], s: Slot) -> &[u8]
+    requires { ⌜ s .start + s .len ≤ length (now message) ⌝ }
+    ensures { λ r. ⌜ (now r ≡ take (s .len) (drop (s .start) (now (message .entry)))) × (length (now r) ≤ length (now (message .entry))) ⌝ }
+{
+    let start = s.start;
+    let end = start + s.len;
+    &message[start..end]
+}
+
 // Takes up one field, where it is kept. The bound leaves room to add up the tags of all fields.
 fn take_up(message: &[u8], method: &[u8], kept: u32, t: Tally, s: Slot) -> Tally
-    requires { ⌜ (length (now message) ≤ 8192) × (t .tags < 2 ^ 31) ⌝ }
-    ensures { λ r. ⌜ (r ≡ takenUp (now (method .entry)) kept (now (message .entry)) t s) × (r .tags ≤ t .tags + 108191) ⌝ }
+    requires { ⌜ (length (now message) ≤ 8192) × (s .start + s .len ≤ length (now message)) × (t .tags < 2 ^ 31) ⌝ }
+    ensures { λ r. ⌜ (r ≡ takenUp (now (method .entry)) kept (now (message .entry)) t s) × (r .tags ≤ t .tags + 8192) ⌝ }
 {
     let n = s.number;
     if !sets::in_set(kept, n) {
         return t;
     }
-    let v = octets::part(message, s.start, s.len);
-    note(t, n, finding_in(method, n, v, s.folded))
+    let v = value_of(message, s);
+    if s.folded {
+        return note(t, n, finding_folded(method, n, v));
+    }
+    take_plain(method, t, n, v)
+}
+
+// The count. That it is at most 96 is said for the compiler, which then drops the test for a slot past the 96 in each turn.
+fn bounded(count: usize) -> usize
+    requires { ⌜ count ≤ 96 ⌝ }
+    ensures { λ r. ⌜ r ≡ count ⌝ }
+{
+    if 96 < count {
+        return 96;
+    }
+    count
 }
 
 // What the kept fields say.
@@ -193,7 +277,7 @@ pub(crate) fn tally(
     slots: &[u16; 384],
     count: usize,
 ) -> Tally
-    requires { ⌜ (length (now message) ≤ 8192) × (count ≤ 96) ⌝ }
+    requires { ⌜ (length (now message) ≤ 8192) × (count ≤ 96) × Within (now message) (now slots) ⌝ }
     ensures { λ r. ⌜ r ≡ tallied (now (method .entry)) noTally (entriesFrom kept (now (message .entry)) (now (slots .entry)) count 0) ⌝ }
 {
     let mut t = Tally {
@@ -201,16 +285,17 @@ pub(crate) fn tally(
         again: 0,
         malformed: 0,
         hops: 0,
-        tagged: false,
-        withheld: false,
+        tagged: 0,
+        withheld: 0,
         length: 0,
         tags: 0,
         lacking: 0,
         tag: Span { start: 0, len: 0 },
         number: Span { start: 0, len: 0 },
     };
+    let end = bounded(count);
     let mut i = 0;
-    while i < count {
+    while i < end {
         t = take_up(message, method, kept, t, lines::slot_at(slots, i));
         i += 1;
     }

@@ -12,7 +12,7 @@ use borrow.Author.Tests.{eqb-true, eqb-false, eq-eqb, ne-eqb, not-true, not-fals
 use Rattle.octets.specs.Classes.{isBlank, isBreak, isValue}
 use Rattle.octets.specs.Scans.{run, any}
 use Rattle.octets.proofs.Runs.{run-nil, run-yes, run-no, run-after}
-use Rattle.sip.specs.Lines.{startsCRLF, startsBlank, more, valueSize}
+use Rattle.sip.specs.Lines.{startsCRLF, startsBlank, oneLonger, valueSize}
 use Rattle.lines.specs.Places.{breaks}
 use Rattle.lines.specs.Sizes.{endAt, valueEnd}
 
@@ -43,21 +43,21 @@ plus-zero : (o : Option ℕ) → plus 0 o ≡ o
 plus-zero none = refl
 plus-zero (some m) = ap some (omega arith)
 
-more-plus : (n : ℕ) (o : Option ℕ) → more (plus n o) ≡ plus (suc n) o
-more-plus n none = refl
-more-plus n (some m) = ap some (omega arith)
+longer-plus : (n : ℕ) (o : Option ℕ) → oneLonger (plus n o) ≡ plus (suc n) o
+longer-plus n none = refl
+longer-plus n (some m) = ap some (omega arith)
 
 plus-plus : (n m : ℕ) (o : Option ℕ) → plus n (plus m o) ≡ plus (n + m) o
 plus-plus n m none = refl
 plus-plus n m (some k) = ap some (omega arith)
 
-more-inv : (o : Option ℕ) {n : ℕ} → more o ≡ some n → (m : ℕ) × (o ≡ some m) × (n ≡ suc m)
-more-inv none e = nothing e
-more-inv (some m) e = (m, refl, cc)
+longer-inv : (o : Option ℕ) {n : ℕ} → oneLonger o ≡ some n → (m : ℕ) × (o ≡ some m) × (n ≡ suc m)
+longer-inv none e = nothing e
+longer-inv (some m) e = (m, refl, cc)
 
 -- ---- value bytes
 
-value-byte : (b : ℕ) (s : List ℕ) → isValue b ≡ true → valueSize 0 (b ∷ s) ≡ more (valueSize 0 s)
+value-byte : (b : ℕ) (s : List ℕ) → isValue b ≡ true → valueSize 0 (b ∷ s) ≡ oneLonger (valueSize 0 s)
 unfolding valueSize
 value-byte b s v = rw (no-crlf b s v, v)
 
@@ -68,7 +68,7 @@ past-line (b ∷ s) = go (isValue b) refl (past-line s)
     go : (t : Bool) → isValue b ≡ t → valueSize 0 s ≡ plus (run isValue s) (valueSize 0 (drop (run isValue s) s))
         → valueSize 0 (b ∷ s) ≡ plus (run isValue (b ∷ s)) (valueSize 0 (drop (run isValue (b ∷ s)) (b ∷ s)))
     go true e f =
-        rw (run-yes isValue b s e) (value-byte b s e ∙ ap more f ∙ more-plus (run isValue s) (valueSize 0 (drop (run isValue s) s)))
+        rw (run-yes isValue b s e) (value-byte b s e ∙ ap oneLonger f ∙ longer-plus (run isValue s) (valueSize 0 (drop (run isValue s) s)))
     go false e f = rw (run-no isValue b s e) (sym (plus-zero (valueSize 0 (b ∷ s))))
 
 -- ---- after the value bytes of a line
@@ -92,7 +92,7 @@ fold-size (a ∷ b ∷ c ∷ t) e =
     let f = and-eq-true-iff (eqb a 13 && eqb b 10) (isBlank c) .0 e in
     rw (f .0, f .1) (three (valueSize 0 t))
   where
-    three : (o : Option ℕ) → more (more (more o)) ≡ plus 3 o
+    three : (o : Option ℕ) → oneLonger (oneLonger (oneLonger o)) ≡ plus 3 o
     three none = refl
     three (some n) = ap some (omega arith)
 
@@ -121,16 +121,16 @@ bad-size (a ∷ t) z n = go (isValue a) refl
 pub value-fits : (k : ℕ) (s : List ℕ) {n : ℕ} → valueSize k s ≡ some n → n + 2 ≤ length s
 unfolding valueSize
 value-fits k [] e = nothing e
-value-fits (suc k) (b ∷ s) e = let (m, y, z) = more-inv (valueSize k s) e in omega (arith, value-fits k s y)
+value-fits (suc k) (b ∷ s) e = let (m, y, z) = longer-inv (valueSize k s) e in omega (arith, value-fits k s y)
 value-fits zero (b ∷ s) {n} e =
     go (startsCRLF (b ∷ s)) (startsBlank (drop 2 (b ∷ s))) (isValue b) refl e (λ m y. value-fits 2 s y) (λ m y. value-fits 0 s y)
   where
-    go : (c f v : Bool) → startsCRLF (b ∷ s) ≡ c → cond c (cond f (more (valueSize 2 s)) (some 0)) (cond v (more (valueSize 0 s)) none) ≡ some n
+    go : (c f v : Bool) → startsCRLF (b ∷ s) ≡ c → cond c (cond f (oneLonger (valueSize 2 s)) (some 0)) (cond v (oneLonger (valueSize 0 s)) none) ≡ some n
         → ((m : ℕ) → valueSize 2 s ≡ some m → m + 2 ≤ length s) → ((m : ℕ) → valueSize 0 s ≡ some m → m + 2 ≤ length s)
         → n + 2 ≤ length (b ∷ s)
-    go true true v c e x y = let (m, w, z) = more-inv (valueSize 2 s) e in omega (arith, x m w)
+    go true true v c e x y = let (m, w, z) = longer-inv (valueSize 2 s) e in omega (arith, x m w)
     go true false v c e x y = let z : n ≡ 0 = cc in omega (arith, crlf-room (b ∷ s) c)
-    go false f true c e x y = let (m, w, z) = more-inv (valueSize 0 s) e in omega (arith, y m w)
+    go false f true c e x y = let (m, w, z) = longer-inv (valueSize 0 s) e in omega (arith, y m w)
     go false f false c e x y = nothing e
 
 -- ---- a line break stands in a value exactly if more than its first line belongs to it
@@ -163,15 +163,15 @@ value-breaks (b ∷ s) n e = go (isValue b) refl (value-breaks s)
   where
     line : (c f : Bool) → isValue b ≡ false → startsCRLF (b ∷ s) ≡ c → startsBlank (drop 2 (b ∷ s)) ≡ f → breaks n (b ∷ s) ≡ not (eqb n 0)
     line true true v p q =
-        let x : more (valueSize 2 s) ≡ some n = rw (p, q) at e in
-        let (m, y, z) = more-inv (valueSize 2 s) x in
+        let x : oneLonger (valueSize 2 s) ≡ some n = rw (p, q) at e in
+        let (m, y, z) = longer-inv (valueSize 2 s) x in
         broken b s m n z (crlf-first b s p)
     line true false v p q = let x : _≡_ {A = Option ℕ} (some 0) (some n) = rw (p, q) at e in let z : n ≡ 0 = cc in rw z
     line false f v p q = nothing (rw (p, v) at e)
 
     go : (t : Bool) → isValue b ≡ t → ((m : ℕ) → valueSize 0 s ≡ some m → breaks m s ≡ not (eqb m (run isValue s)))
         → breaks n (b ∷ s) ≡ not (eqb n (run isValue (b ∷ s)))
-    go true v f = let (m, y, z) = more-inv (valueSize 0 s) (sym (value-byte b s v) ∙ e) in passed b s m n z v (f m y)
+    go true v f = let (m, y, z) = longer-inv (valueSize 0 s) (sym (value-byte b s v) ∙ e) in passed b s m n z v (f m y)
     go false v f = rw (run-no isValue b s v) (line (startsCRLF (b ∷ s)) (startsBlank (drop 2 (b ∷ s))) v refl refl)
 
 -- ---- the lines of a value in a text: where it ends is where what is left of it ends

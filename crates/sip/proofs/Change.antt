@@ -13,7 +13,7 @@ use Rattle.sip.specs.Profile.{columnOf, ignored}
 use Rattle.sip.specs.declared.Column.{Column}
 use Rattle.sip.specs.Refusals.{unread, read, lines, kept, judgement}
 use Rattle.sip.specs.Screen.{screened}
-use Rattle.sip.specs.Change.{startBytes, StartShaped, AllShaped, none-left, one-more, headerBytes, Varied, same, unchanged, added, renamed, Changed}
+use Rattle.sip.specs.Change.{startBytes, StartShaped, AllShaped, none-left, one-more, headerBytes, Varied, no-fields, unchanged, added, renamed, Changed}
 use Rattle.sip.specs.Promises.{Demand3, ReadAs, Everything, NothingElse}
 use Rattle.sip.proofs.Headers.{header-bytes, header-here}
 use Rattle.sip.proofs.Starts.{start-rest, start-bytes, start-here}
@@ -22,7 +22,7 @@ use Rattle.sip.proofs.Names.{listed-name}
 -- ---- the changed fields
 
 varied-shaped : {p : ℕ → Bool} {fs gs : List Field} → Varied p fs gs → AllShaped fs → AllShaped gs
-varied-shaped same none-left = none-left
+varied-shaped no-fields none-left = none-left
 varied-shaped (unchanged v) (one-more w h) = one-more w (varied-shaped v h)
 varied-shaped (added w i v) h = one-more w (varied-shaped v h)
 varied-shaped (renamed {n = n} l e v) (one-more w h) =
@@ -31,13 +31,13 @@ varied-shaped (renamed {n = n} l e v) (one-more w h) =
 
 varied-kept : (c : Option Column) {fs gs : List Field} → Varied (ignored c) fs gs → kept c gs ≡ kept c fs
 unfolding kept
-varied-kept c same = refl
+varied-kept c no-fields = refl
 varied-kept c (unchanged v) = rw (varied-kept c v)
 varied-kept c (added w i v) = rw (i, varied-kept c v)
 varied-kept c (renamed l e v) = rw (e, varied-kept c v)
 
 varied-same : (p : ℕ → Bool) (fs : List Field) → Varied p fs fs
-varied-same p [] = same
+varied-same p [] = no-fields
 varied-same p (f ∷ fs) = unchanged (varied-same p fs)
 
 -- ---- both messages read

@@ -13,7 +13,7 @@ use Rattle.sip.specs.Starred.{linesOf, callWith, call, printed, blankBuf
 use Rattle.sip.specs.Values.{isEmpty, isNumber, isMaxForwards, isContentLength, isCSeq, isCallId, host, port, hostPort, tail, sipFrom, sip}
 use Rattle.sip.specs.Values.{tel, uri, display, bracketed, address, sign, paramValue, paramRest, param, withParam, stops, params, party}
 use Rattle.sip.specs.Values.{isTo, isTagged, isFrom, tagOf, isGlobal, person, identity, isIdentity, tokens, isPrivacy, holdsId, isRequire}
-use Rattle.sip.specs.Values.{requiredTags, isLacking, isShort, isCalled}
+use Rattle.sip.specs.Values.{requiredTags, firstPlace, isLacking, isShort, isCalled}
 use Rattle.causes.specs.Causes.{status, cause, statusRows, classEnds, nextAbove, rowOf, statusOf, causeRows, causeOf, listed, given, among}
 use Rattle.sip.specs.Starred.{AllHold, no-row, row}
 
@@ -27,5 +27,5 @@ unfolding status cause statusRows classEnds nextAbove rowOf statusOf causeRows c
     reasons judged judgement masks delivered screened linesOf callWith call printed blankBuffer starred isEmpty isNumber isMaxForwards
     isContentLength isCSeq isCallId host port hostPort tail sipFrom sip tel uri display bracketed address sign paramValue paramRest
     param withParam stops params party isTo isTagged isFrom tagOf isGlobal person identity isIdentity tokens isPrivacy holdsId
-    isRequire requiredTags isLacking isShort isCalled
+    isRequire requiredTags firstPlace isLacking isShort isCalled
 starred-hold = row refl (row refl (row refl (row refl (row refl (row refl (row refl (row refl (row refl (row refl (row refl (row refl (row refl no-row))))))))))))

@@ -1,12 +1,12 @@
 -- What a test says of its parts, and what follows where facts cannot stand together.
-use mathlib.Core.Path.{_≡_, refl, ap}
+use mathlib.Core.Path.{_≡_, refl, sym, ap}
 use mathlib.Core.Bool.{Bool, true, false, _&&_}
 use mathlib.Core.List.{List, [], _∷_}
 use Prim.Native.Nat.{ℕ, _≤_}
 use native.Mathlib.Omega.{arith}
-use lib.Dec.{leb}
+use lib.Dec.{leb, eqb}
 use lib.ListN.{drop}
-use borrow.Author.Tests.{eqb-true, leb-true, le-leb}
+use borrow.Author.Tests.{eqb-true, eqb-false, leb-true, le-leb}
 use Rattle.octets.specs.Classes.{within}
 use Rattle.octets.specs.Scans.{all, starts}
 
@@ -21,6 +21,16 @@ and-left false b e = e
 pub and-right : (a b : Bool) → (a && b) ≡ true → b ≡ true
 and-right true b e = e
 and-right false b e = never (cc)
+
+-- the order of two numbers is free where they are compared
+pub eqb-turned : (a b : ℕ) → eqb a b ≡ eqb b a
+eqb-turned a b = go (eqb a b) (eqb b a) refl refl
+  where
+    go : (t u : Bool) → eqb a b ≡ t → eqb b a ≡ u → t ≡ u
+    go true true e f = refl
+    go true false e f = absurd (eqb-false b a f (sym (eqb-true a b e)))
+    go false true e f = absurd (eqb-false a b e (sym (eqb-true b a f)))
+    go false false e f = refl
 
 -- a number is in a range
 pub range-low : (lo hi n : ℕ) → within lo hi n ≡ true → lo ≤ n

@@ -43,7 +43,7 @@ headerBytes (f ∷ fs) rest = bytes f ++ headerBytes fs rest
 -- gs is fs with ignored well-shaped fields added anywhere and listed names written in another form or case; "Each original field keeps
 -- every byte after its name." Any number of each together, none included
 pub data Varied (isIgnored : ℕ → Bool) : List Field → List Field → Type 0 where
-  same : Varied isIgnored [] []
+  no-fields : Varied isIgnored [] []
   unchanged : {f : Field} {fs gs : List Field} → Varied isIgnored fs gs → Varied isIgnored (f ∷ fs) (f ∷ gs)
   added :
       {f : Field} {fs gs : List Field} → WellShaped f → isIgnored (numberOf (f .name)) ≡ true → Varied isIgnored fs gs

@@ -47,19 +47,20 @@ unfoldable pub startsBlank : List ℕ → Bool
 startsBlank [] = false
 startsBlank (b ∷ s) = isBlank b
 
-abbrev pub more : Option ℕ → Option ℕ
-more none = none
-more (some n) = some (suc n)
+-- a size with one byte more, where there is one
+abbrev pub oneLonger : Option ℕ → Option ℕ
+oneLonger none = none
+oneLonger (some n) = some (suc n)
 
 -- How many bytes the value at the front has, up to the CRLF that ends it; none where its shape is bad. "A CRLF followed by space or tab
 -- continues the value. Value bytes are tab, 32 to 126 and 128 to 255. A lone CR or LF is bad shape". The first k bytes belong to a
 -- CRLF and its blank that began before them.
 unfoldable pub valueSize : ℕ → List ℕ → Option ℕ
 valueSize k [] = none
-valueSize (suc k) (b ∷ s) = more (valueSize k s)
+valueSize (suc k) (b ∷ s) = oneLonger (valueSize k s)
 valueSize zero (b ∷ s) =
-    let continued = more (valueSize 2 s) in
-    let next = more (valueSize zero s) in
+    let continued = oneLonger (valueSize 2 s) in
+    let next = oneLonger (valueSize zero s) in
     cond (startsCRLF (b ∷ s)) (cond (startsBlank (drop 2 (b ∷ s))) continued (some zero)) (cond (isValue b) next none)
 
 -- the parts of a field as lengths: its name, the spaces or tabs before the colon, and the value without its last CRLF

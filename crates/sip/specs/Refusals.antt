@@ -2,17 +2,17 @@
 use mathlib.Core.Bool.{Bool, true, false, not, cond, _&&_, _||_}
 use mathlib.Core.List.{List, [], _∷_, _++_}
 use mathlib.Core.Option.{Option, none, some}
-use Prim.Native.Nat.{ℕ, suc, _+_}
+use Prim.Native.Nat.{ℕ}
 use lib.Dec.{leb, ltb, eqb}
 use lib.ListN.{length, take, drop}
-use Rattle.octets.specs.Classes.{text, isToken}
+use Rattle.octets.specs.Classes.{text, among, isToken}
 use Rattle.octets.specs.Scans.{run, all, decimal, same, sameText}
 use Rattle.sip.specs.declared.Column.{Column}
 use Rattle.sip.specs.declared.Column.the-variants.{Invite, Reinvite, Ack, Bye, Cancel, Options}
 use Rattle.sip.specs.Lines.{Start, start, startSize, Field, Header, header, canonical}
 use Rattle.sip.specs.Profile.{numberOf, once, columnOf, ignored, mandatory, numbers}
 use Rattle.sip.specs.Values.{isEmpty, isMaxForwards, isContentLength, isCSeq, isCallId, uri, isFrom, isTo, isTagged, isIdentity}
-use Rattle.sip.specs.Values.{isPrivacy, holdsId, isRequire, requiredTags, isLacking, person, isCalled}
+use Rattle.sip.specs.Values.{isPrivacy, holdsId, isRequire, requiredTags, firstPlace, isLacking, person, isCalled}
 
 -- "The answer has reason, reply, detail, missing count and length; each is 0 where not said here."
 pub record Answer : Type 0 where
@@ -113,16 +113,12 @@ isUri u = let n = uri u .size in not (eqb n 0) && eqb n (length u)
 unfoldable pub reason8 : Start → Option Answer
 reason8 l = when (not (isUri (l .uri))) (refusal 8 400 0 0)
 
-abbrev pub isAmong : ℕ → List ℕ → Bool
-isAmong n [] = false
-isAmong n (k ∷ ks) = eqb k n || isAmong n ks
-
 -- "the number of the first field that repeats an earlier one", of those "without "yes""; `earlier` are the numbers before. 0: there is none
 unfoldable pub firstRepeat : List ℕ → List Entry → ℕ
 firstRepeat earlier [] = 0
 firstRepeat earlier (e ∷ es) =
     let later = firstRepeat (e .number ∷ earlier) es in
-    cond (once (e .number) && isAmong (e .number) earlier) (e .number) later
+    cond (once (e .number) && among earlier (e .number)) (e .number) later
 
 unfoldable pub reason9 : List Entry → Option Answer
 reason9 es = let n = firstRepeat [] es in when (not (eqb n 0)) (refusal 9 400 n 0)
@@ -187,16 +183,15 @@ unfoldable pub allTags : List Entry → List (List ℕ)
 allTags [] = []
 allTags (e ∷ es) = let others = allTags es in cond (eqb (e .number) 14) (requiredTags (e .value) ++ others) others
 
--- "the place of the first lacking tag, from 1"; n stand before. 0: there is none
-unfoldable pub firstLacking : ℕ → List (List ℕ) → ℕ
-firstLacking n [] = 0
-firstLacking n (t ∷ ts) = let later = firstLacking (suc n) ts in cond (isLacking t) (suc n) later
+-- "the place of the first lacking tag, from 1, over all Require fields". 0: there is none
+unfoldable pub firstLacking : List Entry → ℕ
+firstLacking es = firstPlace isLacking 0 (allTags es)
 
 unfoldable pub reason14 : List Entry → Option Answer
-reason14 es = let n = firstLacking 0 (allTags es) in when (not (eqb n 0)) (refusal 14 420 n 0)
+reason14 es = let n = firstLacking es in when (not (eqb n 0)) (refusal 14 420 n 0)
 
 -- "Called number (initial INVITE only)"
-abbrev isInitial : Column → Bool
+abbrev pub isInitial : Column → Bool
 isInitial Invite = true
 isInitial Reinvite = false
 isInitial Ack = false

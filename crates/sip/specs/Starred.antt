@@ -17,11 +17,11 @@ linesOf (l ∷ ls) = text l ++ (crlf ++ linesOf ls)
 
 -- the call with these lines for its start line, Max-Forwards, From, P-Asserted-Identity and Content-Length
 unfoldable pub callWith : String → String → List String → String → String → List ℕ
-callWith line forwards from identity length =
+callWith line forwards from asserted cut =
     linesOf
     (line ∷ "v: SIP/2.0/UDP relay.example;branch=z9hG4bK7" ∷ forwards
     ∷ (from ++ ("t: <sip:+33123456789@gw.example>" ∷ "i: 9x@relay.example" ∷ "CSeq: 1 INVITE" ∷ "m: <sip:relay.example>"
-    ∷ "Allow: INVITE, ACK, BYE" ∷ "X-Relay-Mode: text" ∷ identity ∷ "Privacy: id" ∷ length ∷ [])))
+    ∷ "Allow: INVITE, ACK, BYE" ∷ "X-Relay-Mode: text" ∷ asserted ∷ "Privacy: id" ∷ cut ∷ [])))
 
 abbrev invite : String
 invite = "INVITE sip:+33123456789@gw.example SIP/2.0"

@@ -266,6 +266,11 @@ abbrev pub isList : Option (List (List ℕ)) → Bool
 isList none = false
 isList (some ts) = true
 
+-- the place of the first token that passes the test, from 1; n stand before. 0: none does
+unfoldable pub firstPlace : (List ℕ → Bool) → ℕ → List (List ℕ) → ℕ
+firstPlace p n [] = 0
+firstPlace p n (t ∷ ts) = let later = firstPlace p (suc n) ts in cond (p t) (suc n) later
+
 -- ---- "Privacy: one or more tokens parted by `;`"
 
 unfoldable pub isPrivacy : List ℕ → Bool

@@ -10,9 +10,9 @@ use lib.Dec.{eqb}
 use lib.ListN.{length, take, drop}
 use Rattle.octets.specs.Classes.{isToken}
 use Rattle.octets.specs.Scans.{run}
-use Rattle.sip.specs.Values.{isEmpty, sign, withToken, tokens}
+use Rattle.sip.specs.Values.{isEmpty, sign, withToken, tokens, firstPlace}
 use Rattle.values.specs.declared.ListAt.{ListAt}
-use Rattle.values.specs.Answers.{firstPlace, listAt}
+use Rattle.values.specs.Answers.{listAt}
 use Rattle.values.proofs.Within.{is-zero, not-zero}
 
 pub no-bytes : (s : List ℕ) → length s < 1 → isEmpty s ≡ true

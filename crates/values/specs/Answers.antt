@@ -1,13 +1,13 @@
 -- What the value readers answer, by document 01's definitions.
 use mathlib.Core.Bool.{Bool, cond}
 use mathlib.Core.List.{List, [], _∷_}
-use Prim.Native.Nat.{ℕ, suc, _+_}
+use Prim.Native.Nat.{ℕ, _+_}
 use lib.ListN.{length, drop}
 use Rattle.octets.specs.Classes.{text, isUser}
 use Rattle.octets.specs.Scans.{starts, runEscaped, decimal, noNumber, sameText}
 use Rattle.octets.specs.declared.NumberAt.{NumberAt}
 use Rattle.sip.specs.declared.Span.{Span}
-use Rattle.sip.specs.Values.{isNumber, uri, address, person, personSize, isCalled, isIdentity, tokens, listOr, isList, isLacking}
+use Rattle.sip.specs.Values.{isNumber, uri, address, person, personSize, isCalled, isIdentity, tokens, listOr, isList, firstPlace, isLacking}
 use Rattle.sip.specs.Refusals.{otherScheme, isUri}
 use Rattle.sip.specs.Readings.{noSpan}
 use Rattle.values.specs.declared.RequestUri.{RequestUri}
@@ -27,11 +27,6 @@ requestUri u = record { other = otherScheme u; good = isUri u; called = isCalled
 -- where the number of a P-Asserted-Identity stands in its value; no part where the value is malformed
 unfoldable pub identityAt : List ℕ → Span
 identityAt v = let a = address v in cond (isIdentity v) (record { start = a .at + 4; len = personSize (a .uri) }) noSpan
-
--- the place of the first token that passes the test, from 1, n being before; 0 where none does
-unfoldable pub firstPlace : (List ℕ → Bool) → ℕ → List (List ℕ) → ℕ
-firstPlace p n [] = 0
-firstPlace p n (t ∷ ts) = let later = firstPlace p (suc n) ts in cond (p t) (suc n) later
 
 abbrev pub listAt : ℕ → (List ℕ → Bool) → List ℕ → ListAt
 listAt sep p v = let ts = tokens sep 0 v in record { good = isList ts; count = length (listOr ts); first = firstPlace p 0 (listOr ts) }

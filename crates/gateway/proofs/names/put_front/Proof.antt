@@ -1,14 +1,13 @@
 -- Each arm writes the front of its number, which is computed; where the number is not listed the name is empty.
-use mathlib.Core.Path.{_≡_, sym}
+use mathlib.Core.Path.{_≡_}
 use mathlib.Core.Bool.{false}
 use mathlib.Core.List.{List, [], _∷_, _++_, map}
 use Prim.Native.Nat.{ℕ, _+_, _≤_}
-use lib.Dec.{eqb}
 use lib.ListN.{length}
 use borrow.Author.Tests.{ne-eqb}
-use Rattle.octets.specs.Classes.{text}
+use Rattle.octets.specs.Classes.{among, text}
 use Rattle.sip.specs.Profile.{Row, nameOf, find, rows}
-use Rattle.judgement.proofs.Members.{isAmong, find-none}
+use Rattle.judgement.proofs.Members.{find-none}
 use Rattle.emit.specs.Put.{Wrote}
 use borrow.Author.Needs.{needs}
 use Rattle.gateway.proofs.names.put_front.Statement.{statement}
@@ -23,35 +22,31 @@ named k e w = rw e w
 fits : (k : ℕ) {n : ℕ} → n ≡ k → (d : List ℕ) (at : ℕ) → at + (length (nameOf n) + 2) ≤ length d → at + (length (nameOf k) + 2) ≤ length d
 fits k e d at h = rw e at h
 
--- not one of the listed numbers
-other : (k n : ℕ) → (n ≡ k → ⊥) → eqb k n ≡ false
-other k n h = ne-eqb k n (λ e. h (sym e))
-
 unlisted : (n : ℕ) → (n ≡ 1 → ⊥) → (n ≡ 2 → ⊥) → (n ≡ 3 → ⊥) → (n ≡ 4 → ⊥) → (n ≡ 5 → ⊥) → (n ≡ 6 → ⊥) → (n ≡ 7 → ⊥) → (n ≡ 8 → ⊥) → (n ≡ 9 → ⊥)
     → (n ≡ 10 → ⊥) → (n ≡ 11 → ⊥) → (n ≡ 12 → ⊥) → (n ≡ 13 → ⊥) → (n ≡ 14 → ⊥) → (n ≡ 15 → ⊥) → (n ≡ 16 → ⊥) → (n ≡ 17 → ⊥) → (n ≡ 18 → ⊥)
     → {d : List ℕ} {at r : ℕ} {d′ : List ℕ} → Wrote d at colon r d′ → Wrote d at (nameOf n ++ colon) r d′
 unfolding nameOf rows
 unlisted n h1 h2 h3 h4 h5 h6 h7 h8 h9 h10 h11 h12 h13 h14 h15 h16 h17 h18 w =
-    let none-listed : isAmong n (map (λ (r : Row). r .number) rows) ≡ false
+    let none-listed : among (map (λ (r : Row). r .number) rows) n ≡ false
     = simp (
-      other 1 n h1,
-      other 2 n h2,
-      other 3 n h3,
-      other 4 n h4,
-      other 5 n h5,
-      other 6 n h6,
-      other 7 n h7,
-      other 8 n h8,
-      other 9 n h9,
-      other 10 n h10,
-      other 11 n h11,
-      other 12 n h12,
-      other 13 n h13,
-      other 14 n h14,
-      other 15 n h15,
-      other 16 n h16,
-      other 17 n h17,
-      other 18 n h18,
+      ne-eqb n 1 h1,
+      ne-eqb n 2 h2,
+      ne-eqb n 3 h3,
+      ne-eqb n 4 h4,
+      ne-eqb n 5 h5,
+      ne-eqb n 6 h6,
+      ne-eqb n 7 h7,
+      ne-eqb n 8 h8,
+      ne-eqb n 9 h9,
+      ne-eqb n 10 h10,
+      ne-eqb n 11 h11,
+      ne-eqb n 12 h12,
+      ne-eqb n 13 h13,
+      ne-eqb n 14 h14,
+      ne-eqb n 15 h15,
+      ne-eqb n 16 h16,
+      ne-eqb n 17 h17,
+      ne-eqb n 18 h18,
     ) in
     let empty : nameOf n ≡ [] = rw (nameOf, find-none rows n none-listed) in
     rw empty w

@@ -1,7 +1,7 @@
 -- What is found in a Content-Length is what its number says.
 use borrow.Author.Needs.{needs}
 use mathlib.Core.Path.{_≡_}
-use mathlib.Core.Bool.{false, not}
+use mathlib.Core.Bool.{not}
 use mathlib.Core.List.{List, []}
 use Prim.Native.Nat.{ℕ}
 use lib.Dec.{eqb}
@@ -13,7 +13,7 @@ use Rattle.judgement.proofs.findings.content_length.Statement.{statemen
 use Rattle.judgement.proofs.findings.content_length.Tie as tie
 
 length-found : (v : List ℕ) {h : NumberAt} → h ≡ wholeNumber 5 99999 v
-    → record { good = not (eqb (h .size) 0); flag = false; start = 0; len = h .value } ≡ finding [] 8 v
+    → record { good = not (eqb (h .size) 0); start = 0; len = h .value } ≡ finding [] 8 v
 unfolding finding
 length-found v e = rw e
 

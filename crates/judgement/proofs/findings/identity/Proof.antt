@@ -1,7 +1,7 @@
 -- What is found in a P-Asserted-Identity is where its number stands.
 use borrow.Author.Needs.{needs}
 use mathlib.Core.Path.{_≡_}
-use mathlib.Core.Bool.{false, not}
+use mathlib.Core.Bool.{not}
 use mathlib.Core.List.{List, []}
 use Prim.Native.Nat.{ℕ}
 use lib.Dec.{eqb}
@@ -11,7 +11,7 @@ use Rattle.judgement.specs.Tallies.{finding}
 use Rattle.judgement.proofs.findings.identity.Statement.{statement}
 use Rattle.judgement.proofs.findings.identity.Tie as tie
 
-number-found : (v : List ℕ) {p : Span} → p ≡ identityAt v → record { good = not (eqb (p .len) 0); flag = false; start = p .start; len = p .len } ≡ finding [] 15 v
+number-found : (v : List ℕ) {p : Span} → p ≡ identityAt v → record { good = not (eqb (p .len) 0); start = p .start; len = p .len } ≡ finding [] 15 v
 unfolding finding
 number-found v e = rw e
 

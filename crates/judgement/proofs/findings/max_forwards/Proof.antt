@@ -1,7 +1,7 @@
 -- What is found in a Max-Forwards is what its number says.
 use borrow.Author.Needs.{needs}
 use mathlib.Core.Path.{_≡_}
-use mathlib.Core.Bool.{false, not}
+use mathlib.Core.Bool.{not}
 use mathlib.Core.List.{List, []}
 use Prim.Native.Nat.{ℕ}
 use lib.Dec.{eqb}
@@ -13,7 +13,7 @@ use Rattle.judgement.proofs.findings.max_forwards.Statement.{statement}
 use Rattle.judgement.proofs.findings.max_forwards.Tie as tie
 
 hops-found : (v : List ℕ) {h : NumberAt} → h ≡ wholeNumber 3 255 v
-    → record { good = not (eqb (h .size) 0); flag = false; start = 0; len = h .value } ≡ finding [] 2 v
+    → record { good = not (eqb (h .size) 0); start = 0; len = h .value } ≡ finding [] 2 v
 unfolding finding
 hops-found v e = rw e
 

@@ -1,17 +1,16 @@
--- What is found in a Privacy is what its list says.
+-- What is found in a Privacy is what its list says; a list has no more tokens than bytes.
 use borrow.Author.Needs.{needs}
 use mathlib.Core.Path.{_≡_}
-use mathlib.Core.Bool.{not}
 use mathlib.Core.List.{List, []}
 use Prim.Native.Nat.{ℕ}
-use lib.Dec.{eqb}
 use Rattle.values.specs.declared.ListAt.{ListAt}
 use Rattle.values.specs.Answers.{privacyAt}
 use Rattle.judgement.specs.Tallies.{finding}
+use Rattle.judgement.proofs.Bounds.{id-bound}
 use Rattle.judgement.proofs.findings.privacy.Statement.{statement}
 use Rattle.judgement.proofs.findings.privacy.Tie as tie
 
-id-found : (v : List ℕ) {l : ListAt} → l ≡ privacyAt v → record { good = l .good; flag = not (eqb (l .first) 0); start = 0; len = 0 } ≡ finding [] 16 v
+id-found : (v : List ℕ) {l : ListAt} → l ≡ privacyAt v → record { good = l .good; start = l .first; len = 0 } ≡ finding [] 16 v
 unfolding finding
 id-found v e = rw e
 
@@ -19,7 +18,7 @@ privacy-requires : tie.Need-privacy-requires
 privacy-requires c κs = search needs
 
 returns : tie.Need-returns
-returns c = search (id-found, needs)
+returns c = search (id-found, id-bound, needs)
 
 pub privacy-spec : {M : Type 1} → statement M
 privacy-spec = tie.close (tie.spec privacy-requires returns)

@@ -1,7 +1,6 @@
 -- What is found in a Require is what its list says; a list has no more tokens than bytes.
 use borrow.Author.Needs.{needs}
 use mathlib.Core.Path.{_≡_}
-use mathlib.Core.Bool.{false}
 use mathlib.Core.List.{List, []}
 use Prim.Native.Nat.{ℕ}
 use Rattle.values.specs.declared.ListAt.{ListAt}
@@ -11,7 +10,7 @@ use Rattle.judgement.proofs.Bounds.{tags-bound, place-bound}
 use Rattle.judgement.proofs.findings.require.Statement.{statement}
 use Rattle.judgement.proofs.findings.require.Tie as tie
 
-tags-found : (v : List ℕ) {l : ListAt} → l ≡ requireAt v → record { good = l .good; flag = false; start = l .first; len = l .count } ≡ finding [] 14 v
+tags-found : (v : List ℕ) {l : ListAt} → l ≡ requireAt v → record { good = l .good; start = l .first; len = l .count } ≡ finding [] 14 v
 unfolding finding
 tags-found v e = rw e
 

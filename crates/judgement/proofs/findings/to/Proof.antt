@@ -1,17 +1,15 @@
 -- What is found in a To is what its address and parameters say.
 use borrow.Author.Needs.{needs}
 use mathlib.Core.Path.{_≡_}
-use mathlib.Core.Bool.{not}
 use mathlib.Core.List.{List, []}
 use Prim.Native.Nat.{ℕ}
-use lib.Dec.{eqb}
 use Rattle.sip.specs.declared.PartyAt.{PartyAt}
 use Rattle.sip.specs.Values.{party}
 use Rattle.judgement.specs.Tallies.{finding}
 use Rattle.judgement.proofs.findings.to.Statement.{statement}
 use Rattle.judgement.proofs.findings.to.Tie as tie
 
-to-found : (v : List ℕ) {p : PartyAt} → p ≡ party v → record { good = p .good; flag = not (eqb (p .len) 0); start = 0; len = 0 } ≡ finding [] 4 v
+to-found : (v : List ℕ) {p : PartyAt} → p ≡ party v → record { good = p .good; start = 0; len = p .len } ≡ finding [] 4 v
 unfolding finding
 to-found v e = rw e
 

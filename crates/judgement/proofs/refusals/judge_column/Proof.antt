@@ -1,9 +1,10 @@
 -- The answer, field by field.
 use borrow.Author.Needs.{needs}
 use mathlib.Core.Path.{_≡_}
-use mathlib.Core.Bool.{Bool}
+use mathlib.Core.Bool.{Bool, not}
 use mathlib.Core.List.{List}
 use Prim.Native.Nat.{ℕ, _+_, _-_}
+use lib.Dec.{eqb}
 use lib.ListN.{length, take, drop}
 use Rattle.octets.specs.Classes.{text}
 use Rattle.octets.specs.Scans.{same}
@@ -36,7 +37,7 @@ module _ (h : Message) (c : Column) (m method slots : List ℕ) {u : RequestUri}
           kept = k;
           hops = t .hops;
           body = n;
-          withheld = t .withheld;
+          withheld = not (eqb (t .withheld) 0);
           tag = t .tag;
           number = t .number;
         }

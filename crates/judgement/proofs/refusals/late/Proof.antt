@@ -6,13 +6,13 @@ use Prim.Native.Nat.{ℕ}
 use lib.Dec.{eqb}
 use borrow.Author.Tests.{eq-eqb, ne-eqb, not-true, not-false}
 use Rattle.sip.specs.declared.Column.{Column}
-use Rattle.sip.specs.Refusals.{firstOf}
+use Rattle.sip.specs.Refusals.{isInitial, firstOf}
 use Rattle.values.specs.declared.RequestUri.{RequestUri}
 use Rattle.judgement.specs.declared.Lack.{Lack}
 use Rattle.judgement.specs.declared.Refusal.{Refusal}
 use Rattle.judgement.specs.declared.Tally.{Tally}
 use Rattle.judgement.specs.Sets.{lackAt}
-use Rattle.judgement.specs.Judged.{hopless, initial, late, refusalOf}
+use Rattle.judgement.specs.Judged.{hopless, late, refusalOf}
 use Rattle.judgement.proofs.refusals.late.Statement.{statement}
 use Rattle.judgement.proofs.refusals.late.Tie as tie
 
@@ -36,15 +36,15 @@ module _ (c : Column) (t : Tally) (u : RequestUri) (body : ℕ) {k : Lack} (ek :
       unfolding late
       lacking q e = e ∙ rw (← ek, eq-eqb (k .count) 0 n12, y, ne-eqb (t .lacking) 0 q)
 
-      module _ (n14 : t .lacking ≡ 0) {i : Bool} (ei : i ≡ initial c) where
+      module _ (n14 : t .lacking ≡ 0) {i : Bool} (ei : i ≡ isInitial c) where
         later : {r : Refusal} → not i ≡ true → r ≡ record { reason = 0; reply = 0; detail = 0; missing = 0 } → r ≡ refusalOf (firstOf (late c t u body))
         unfolding late
         later q e =
-            let x : initial c ≡ false = sym ei ∙ not-true i q in
+            let x : isInitial c ≡ false = sym ei ∙ not-true i q in
             e ∙ rw (← ek, eq-eqb (k .count) 0 n12, y, eq-eqb (t .lacking) 0 n14, x)
 
         module _ (q : not i ≡ false) where
-          x : initial c ≡ true
+          x : isInitial c ≡ true
           x = sym ei ∙ not-false i q
 
           called : {r : Refusal} → u .called ≡ true → r ≡ record { reason = 0; reply = 0; detail = 0; missing = 0 } → r ≡ refusalOf (firstOf (late c t u body))

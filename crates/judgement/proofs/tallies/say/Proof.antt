@@ -17,7 +17,7 @@ module _ (t : Tally) (n : ℕ) (f : Finding) where
   unfolding said
   tag q = rw q
 
-  tagged : n ≡ 4 → record { seen = t .seen; again = t .again; malformed = t .malformed; hops = t .hops; tagged = f .flag; withheld = t .withheld; length = t .length; tags = t .tags; lacking = t .lacking; tag = t .tag; number = t .number } ≡ said t n f
+  tagged : n ≡ 4 → record { seen = t .seen; again = t .again; malformed = t .malformed; hops = t .hops; tagged = f .len; withheld = t .withheld; length = t .length; tags = t .tags; lacking = t .lacking; tag = t .tag; number = t .number } ≡ said t n f
   unfolding said
   tagged q = rw q
 
@@ -29,7 +29,7 @@ module _ (t : Tally) (n : ℕ) (f : Finding) where
   unfolding said
   number q = rw q
 
-  withheld : n ≡ 16 → record { seen = t .seen; again = t .again; malformed = t .malformed; hops = t .hops; tagged = t .tagged; withheld = f .flag; length = t .length; tags = t .tags; lacking = t .lacking; tag = t .tag; number = t .number } ≡ said t n f
+  withheld : n ≡ 16 → record { seen = t .seen; again = t .again; malformed = t .malformed; hops = t .hops; tagged = t .tagged; withheld = f .start; length = t .length; tags = t .tags; lacking = t .lacking; tag = t .tag; number = t .number } ≡ said t n f
   unfolding said
   withheld q = rw q
 

@@ -1,6 +1,6 @@
--- One law for each answer: not kept, taken up.
+-- One law for each answer: not kept, folded, in place.
 use borrow.Author.Needs.{needs}
-use Rattle.judgement.proofs.Kept.{skipped, low, taken, tags-bound}
+use Rattle.judgement.proofs.Kept.{skipped, low, taken-plain, taken-folded, plain-tags, folded-tags}
 use Rattle.judgement.proofs.tallies.take_up.Statement.{statement}
 use Rattle.judgement.proofs.tallies.take_up.Tie as tie
 
@@ -10,17 +10,23 @@ in-set-requires c κs = search needs
 returns : tie.Need-returns
 returns c = search (skipped, needs)
 
-part-requires : tie.Need-part-requires
-part-requires c κs = search needs
+value-of-requires : tie.Need-value-of-requires
+value-of-requires c κs = search needs
 
-finding-in-requires : tie.Need-finding-in-requires
-finding-in-requires c κs = search needs
+finding-folded-requires : tie.Need-finding-folded-requires
+finding-folded-requires c κs = search needs
 
 note-requires : tie.Need-note-requires
 note-requires c κs = search (low, needs)
 
 returns-2 : tie.Need-returns-2
-returns-2 c = search (taken, tags-bound, needs)
+returns-2 c = search (taken-folded, folded-tags)
+
+take-plain-requires : tie.Need-take-plain-requires
+take-plain-requires c κs = search (low, needs)
+
+returns-3 : tie.Need-returns-3
+returns-3 c = search (taken-plain, plain-tags)
 
 pub take-up-spec : {M : Type 1} → statement M
 take-up-spec =
@@ -28,7 +34,9 @@ take-up-spec =
     (tie.spec
     in-set-requires
     returns
-    part-requires
-    finding-in-requires
+    value-of-requires
+    finding-folded-requires
     note-requires
-    returns-2)
+    returns-2
+    take-plain-requires
+    returns-3)
