@@ -3,7 +3,7 @@ ghost use mathlib.Core.Path.{_≡_};
 ghost use mathlib.Core.List.{[], _∷_};
 ghost use Prim.Native.Nat.{_+_, _%_, _≤_, _<_};
 ghost use lib.Dec.{leb};
-ghost use lib.ListN.{length, take, drop};
+ghost use lib.ListN.{length};
 ghost use Rattle.sip.specs.Lines.{joined, folded, unfoldedAt};
 ghost use Rattle.sip.specs.Output.{numeral};
 ghost use Rattle.emit.specs.Put.{Wrote};

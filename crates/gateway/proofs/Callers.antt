@@ -15,7 +15,6 @@ use Rattle.sip.specs.Profile.{columnOf}
 use Rattle.sip.specs.Values.{isGlobal, isIdentity}
 use Rattle.sip.specs.Refusals.{Answer, valueOf, refused, judgement}
 use Rattle.sip.specs.Readings.{noSpan, part, noCalling, callerAt, callingAt, callingPart, callingNumber, place, readingAt, reading}
-use Rattle.sip.proofs.Tests.{never}
 use Rattle.sip.proofs.Firsts.{kept-reading}
 use Rattle.sip.proofs.Within.{reading-within}
 use Rattle.sip.proofs.Calling.{caller-within, calling-part}
@@ -24,11 +23,7 @@ use Rattle.lines.specs.declared.Slot.{Slot}
 use Rattle.lines.specs.Index.{slotAt, index}
 use Rattle.lines.specs.Passes.{firstSlots, spanOf, spansIn}
 use Rattle.lines.proofs.Counts.{spans-last, message-spans}
-use Rattle.judgement.specs.declared.ColumnOf.{ColumnOf}
-use Rattle.judgement.specs.declared.ColumnOf.the-variants.{Is, Unknown}
 use Rattle.judgement.specs.declared.Judged.{Judged}
-use Rattle.judgement.specs.Sets.{columnAt}
-use Rattle.judgement.specs.Judged.{judgedBy, judgedAs, judgedLines, judgedMessage}
 use Rattle.judgement.specs.Judges.{Passes, Judges}
 use Rattle.gateway.specs.Callers.{Calling}
 
@@ -52,20 +47,6 @@ module _ (m t : List ℕ) {x : CallingAt} (none-said : x ≡ noCalling) where
 
 pub good-trunk : (t : List ℕ) {b : Bool} → b ≡ isGlobal t → not b ≡ false → isGlobal t ≡ true
 good-trunk t {b} e f = sym e ∙ not-false b f
-
--- an accepted message has as many slots as were read
-pub count-is : (m : List ℕ) {j : Judged} → j ≡ judgedMessage m → j .refusal .reason ≡ 0 → j .count ≡ index m .head .count
-unfolding judgedMessage judgedLines judgedBy
-count-is m {j} e z = rw e (go (index m .head .reason) refl (rw e at z))
-  where
-    column : (c : ColumnOf) → judgedAs m (index m .slots) (index m .head) c .refusal .reason ≡ 0
-        → judgedAs m (index m .slots) (index m .head) c .count ≡ index m .head .count
-    column (Is c) y = refl
-    column Unknown y = never (cc)
-
-    go : (n : ℕ) → index m .head .reason ≡ n → judgedMessage m .refusal .reason ≡ 0 → judgedMessage m .count ≡ index m .head .count
-    go zero q y = rw q (column (columnAt (take (index m .head .method) m)) (rw q at y))
-    go (suc n) q y = let w : suc n ≡ 0 = rw (q, ne-eqb (suc n) 0 (λ z. omega arith)) at y in absurd (omega arith)
 
 -- ---- the first slot of a number
 

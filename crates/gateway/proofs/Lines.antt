@@ -22,7 +22,7 @@ use Rattle.lines.specs.declared.Slot.{Slot}
 use Rattle.lines.specs.Index.{slotAt}
 use Rattle.judgement.specs.Sets.{has}
 use Rattle.judgement.specs.Entries.{valueAt, entryAt, entriesFrom}
-use Rattle.judgement.specs.Judges.{Tells, Told, nothing, also}
+use Rattle.judgement.specs.Judges.{Tells, Told, also}
 use Rattle.gateway.specs.declared.Sending.{Sending}
 use Rattle.gateway.specs.Sent.{Goes}
 
@@ -53,11 +53,6 @@ module _ (m : List ℕ) (s : Slot) where
       go : (t : Bool) → s .folded ≡ t → length (valueAt m s) ≤ length m
       go true e = omega (arith, ap length (value-broken e), folded-le raw, raw-le)
       go false e = omega (arith, ap length (value-whole e), raw-le)
-
--- every slot lies within the message, and so does this one
-pub slot-within : (m ns : List ℕ) (i : ℕ) → ((i : ℕ) → slotAt ns i .start + slotAt ns i .len ≤ length m) → {s : Slot} → s ≡ slotAt ns i
-    → s .start + s .len ≤ length m
-slot-within m ns i h e = rw e (h i)
 
 -- ---- as it goes out
 

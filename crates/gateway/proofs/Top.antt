@@ -1,7 +1,7 @@
 -- From what judging found to the whole answer: the text that is written is the outgoing message.
 use mathlib.Core.Path.{_≡_, refl, sym, ap, _∙_}
 use mathlib.Core.Bool.{Bool, true, false, cond, _&&_}
-use mathlib.Core.List.{List, [], _∷_, _++_, append-assoc}
+use mathlib.Core.List.{List, _∷_, _++_, append-assoc}
 use Prim.Native.Nat.{ℕ, _+_, _≤_, _<_}
 use native.Mathlib.Omega.{arith}
 use lib.Dec.{eqb, leb}
@@ -32,6 +32,8 @@ use Rattle.gateway.specs.Verdicts.{numbersOf}
 use Rattle.gateway.proofs.Lines.{none-hidden, lines-kept, told-kept}
 use Rattle.gateway.proofs.Answers.{other-side, answer-refused, answer-full, answer-sent}
 
+-- ---- what the writer is told
+
 module _ (m slots : List ℕ) {j : Judged} (p : Passes m slots j) where
   abbrev before : ℕ
   before = j .method + 1 + j .uri
@@ -40,16 +42,15 @@ module _ (m slots : List ℕ) {j : Judged} (p : Passes m slots j) where
   es = entriesFrom (j .kept) m slots (j .count) 0
 
   module _ (masked : Bool) {w : Sending} (ew : w ≡ sendingOf masked j) {sent : ℕ} (g : Goes masked (j .kept) sent) where
-    -- ---- what the writer is told
-
-    pub told : Told (w .hops) (w .tag) (entriesFrom sent m slots (j .count) 0)
-    told = rw ew (told-kept masked g m slots (j .hops) (j .tag) (j .count) 0 (rw (p .fields-held) at (p .told)))
-
     pub hidden : (w .masked && has sent 15) ≡ false
     hidden = rw ew (none-hidden masked g)
 
-    lines-are : fieldLines (w .masked) (w .body) (entriesFrom sent m slots (j .count) 0) ≡ fieldLines masked (j .body) es
-    lines-are = rw ew (lines-kept masked g m slots (j .body) (j .count) 0)
+    module _ {count : ℕ} (ec : count ≡ j .count) where
+      pub told : Told (w .hops) (w .tag) (entriesFrom sent m slots count 0)
+      told = rw (ec, ew) (told-kept masked g m slots (j .hops) (j .tag) (j .count) 0 (rw (p .fields-held) at (p .told)))
+
+      lines-are : fieldLines (w .masked) (w .body) (entriesFrom sent m slots count 0) ≡ fieldLines masked (j .body) es
+      lines-are = rw (ec, ew) (lines-kept masked g m slots (j .body) (j .count) 0)
 
   -- ---- the outgoing message
 
@@ -81,24 +82,24 @@ module _ (m slots : List ℕ) {j : Judged} (p : Passes m slots j) where
       omega
       (arith, length-append (take before m) (text " SIP/2.0\r\n" ++ (lines ++ (crlf ++ last))), length-append lines (crlf ++ last))
 
-  module _ (masked : Bool) {w : Sending} (ew : w ≡ sendingOf masked j) {sent : ℕ} (g : Goes masked (j .kept) sent) where
+  module _ (masked : Bool) {w : Sending} (ew : w ≡ sendingOf masked j) {sent : ℕ} (g : Goes masked (j .kept) sent) {count : ℕ} (ec : count ≡ j .count) where
     abbrev lines : List ℕ
-    lines = fieldLines (w .masked) (w .body) (entriesFrom sent m slots (j .count) 0)
+    lines = fieldLines (w .masked) (w .body) (entriesFrom sent m slots count 0)
 
     pub sent-long : {fields : ℕ} → fields ≡ length lines → {len : ℕ} → len ≡ before + 10 + fields + 2 + j .body
         → len ≡ length (sentMessage m slots j masked)
     sent-long f a =
-        omega (arith, ap length (lines-are masked ew g), sent-parts masked, body-size, length-take-le before m (p .line-within))
+        omega (arith, ap length (lines-are masked ew g ec), sent-parts masked, body-size, length-take-le before m (p .line-within))
 
     pub sent-room : (d : List ℕ) → length (sentMessage m slots j masked) ≤ length d → {n : ℕ}
         → n ≡ length (take before m) + (10 + (length lines + (2 + length (take (w .body) (drop (j .rest) m))))) → n ≤ length d
-    sent-room d l q = omega (arith, sent-parts masked, rw (lines-are masked ew g, ew) at q)
+    sent-room d l q = omega (arith, sent-parts masked, rw (lines-are masked ew g ec, ew) at q)
 
     pub sent-wrote : {d d′ : List ℕ} {n : ℕ}
         → Wrote d 0 (take before m ++ (text " SIP/2.0\r\n" ++ (lines ++ (crlf ++ take (w .body) (drop (j .rest) m))))) n d′
         → Wrote d 0 (sentMessage m slots j masked) n d′
     unfolding sentMessage
-    sent-wrote x = rw (lines-are masked ew g, ew) at x
+    sent-wrote x = rw (lines-are masked ew g ec, ew) at x
 
   module _ (masked : Bool) (room : ℕ) where
     abbrev long : ℕ

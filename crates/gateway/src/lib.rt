@@ -4,7 +4,7 @@ use judgement::Refusal;
 ghost use mathlib.Core.Path.{_≡_};
 ghost use mathlib.Core.Bool.{true, false, cond, _&&_};
 ghost use mathlib.Core.List.{_++_};
-ghost use Prim.Native.Nat.{ℕ, _+_, _≤_, _<_};
+ghost use Prim.Native.Nat.{_+_, _≤_, _<_};
 ghost use lib.Dec.{eqb, leb};
 ghost use lib.ListN.{length, take, drop};
 ghost use Rattle.octets.specs.Classes.{text};
@@ -16,9 +16,9 @@ ghost use Rattle.sip.specs.Readings.{place, noCalling, callingPart, callingNumb
 ghost use Rattle.sip.specs.Screen.{screened};
 ghost use Rattle.sip.specs.Values.{isGlobal};
 ghost use Rattle.emit.specs.Put.{Wrote};
-ghost use Rattle.lines.specs.Index.{slotAt, index};
+ghost use Rattle.lines.specs.Index.{index};
 ghost use Rattle.lines.specs.Passes.{firstSlots, spansIn};
-ghost use Rattle.judgement.specs.Entries.{entriesFrom};
+ghost use Rattle.judgement.specs.Entries.{Within, entriesFrom};
 ghost use Rattle.judgement.specs.Judges.{Told, Passes};
 ghost use Rattle.judgement.specs.Sets.{has};
 ghost use Rattle.gateway.specs.Callers.{Calling};
@@ -70,7 +70,7 @@ fn put_message(
 ) -> usize
     requires { ⌜
         Told (w .hops) (w .tag) (entriesFrom sent (now message) (now slots) count 0) × ((w .masked && has sent 15) ≡ false)
-        × ((i : ℕ) → slotAt (now slots) i .start + slotAt (now slots) i .len ≤ length (now message))
+        × Within (now message) (now slots)
         × (length (take before (now message))
         + (10 + (length (fieldLines (w .masked) (w .body) (entriesFrom sent (now message) (now slots) count 0))
         + (2 + length (take (w .body) (drop rest (now message)))))) ≤ length (now out))
@@ -89,6 +89,17 @@ fn put_message(
     output::put_body(out, end, message, rest, w.body)
 }
 
+// The number of slots. That it is at most 96 is said for the compiler, which then drops the test for a slot past the 96 in each turn.
+fn bounded(count: usize) -> usize
+    requires { ⌜ count ≤ 96 ⌝ }
+    ensures { λ r. ⌜ r ≡ count ⌝ }
+{
+    if 96 < count {
+        return 96;
+    }
+    count
+}
+
 // The outgoing message at the front of the buffer, which has room for it.
 fn write(out: &mut [u8], message: &[u8], slots: &[u16; 384], j: Judged, masked: bool) -> usize
     requires { ⌜ Passes (now message) (now slots) j × (length (sentMessage (now message) (now slots) j masked) ≤ length (now out)) ⌝ }
@@ -97,7 +108,8 @@ fn write(out: &mut [u8], message: &[u8], slots: &[u16; 384], j: Judged, masked: 
     let w = sending_of(j, masked);
     let sent = output::sent_set(j.kept, masked);
     let before = j.method + 1 + j.uri;
-    put_message(out, message, before, j.rest, sent, slots, j.count, w)
+    let count = bounded(j.count);
+    put_message(out, message, before, j.rest, sent, slots, count, w)
 }
 
 // The length of the outgoing message.

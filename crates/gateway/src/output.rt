@@ -7,7 +7,7 @@ use sip::Span;
 ghost use mathlib.Core.Path.{_≡_};
 ghost use mathlib.Core.Bool.{false, cond, _&&_};
 ghost use mathlib.Core.List.{_++_};
-ghost use Prim.Native.Nat.{ℕ, _+_, _-_, _%_, _≤_, _<_, _^_};
+ghost use Prim.Native.Nat.{_+_, _-_, _%_, _≤_, _<_, _^_};
 ghost use lib.Dec.{eqb};
 ghost use lib.ListN.{length, take, drop};
 ghost use Rattle.octets.specs.Classes.{text, isGap};
@@ -16,8 +16,7 @@ ghost use Rattle.sip.specs.Lines.{crlf, folded, unfoldedAt};
 ghost use Rattle.sip.specs.Output.{numeral, anonymous, sentValue, line, fieldLines};
 ghost use Rattle.sip.specs.Readings.{part};
 ghost use Rattle.emit.specs.Put.{Wrote};
-ghost use Rattle.lines.specs.Index.{slotAt};
-ghost use Rattle.judgement.specs.Entries.{entryAt, entriesFrom};
+ghost use Rattle.judgement.specs.Entries.{Within, entryAt, entriesFrom};
 ghost use Rattle.judgement.specs.Judges.{Tells, Told};
 ghost use Rattle.judgement.specs.Sets.{has};
 ghost use Rattle.gateway.specs.Sent.{Goes};
@@ -110,7 +109,7 @@ pub(crate) fn lines_len(
 ) -> usize
     requires { ⌜
         Told (w .hops) (w .tag) (entriesFrom sent (now message) (now slots) count 0) × ((w .masked && has sent 15) ≡ false)
-        × ((i : ℕ) → slotAt (now slots) i .start + slotAt (now slots) i .len ≤ length (now message))
+        × Within (now message) (now slots)
         × (count ≤ 96) × (length (now message) ≤ 8192)
         ⌝ }
     ensures { λ r. ⌜
@@ -238,7 +237,7 @@ pub(crate) fn put_lines(
 ) -> usize
     requires { ⌜
         Told (w .hops) (w .tag) (entriesFrom sent (now message) (now slots) count 0) × ((w .masked && has sent 15) ≡ false)
-        × ((i : ℕ) → slotAt (now slots) i .start + slotAt (now slots) i .len ≤ length (now message))
+        × Within (now message) (now slots)
         × (from + length (fieldLines (w .masked) (w .body) (entriesFrom sent (now message) (now slots) count 0)) ≤ length (now out))
         ⌝ }
     ensures { λ r. ⌜

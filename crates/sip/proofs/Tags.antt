@@ -1,19 +1,18 @@
 -- The tag of a From or To is a token, so that nothing in it is folded: by the parameters, one after the other.
-use mathlib.Core.Path.{_≡_, refl, sym, ap, _∙_}
+use mathlib.Core.Path.{_≡_, refl, ap, _∙_}
 use mathlib.Core.Bool.{Bool, true, false, not, cond, _&&_, _||_}
 use mathlib.Core.List.{List, [], _∷_}
-use Prim.Native.Nat.{ℕ, zero, suc, _+_, _-_, _<_}
+use Prim.Native.Nat.{ℕ, zero, suc, _+_, _-_}
 use native.Mathlib.Omega.{arith}
 use lib.Dec.{eqb}
 use lib.ListN.{length, take, drop}
 use lib.Seq.{drop-drop}
 use borrow.Author.Tests.{eqb-true, eqb-false}
-use Rattle.octets.specs.Classes.{text, within, isToken, isBlank, isBreak, isGap}
-use Rattle.octets.specs.Scans.{run, all, any, quoted, sameText}
+use Rattle.octets.specs.Classes.{text, within, isToken, isGap}
+use Rattle.octets.specs.Scans.{run, all, any, sameText}
 use Rattle.octets.proofs.Runs.{run-all}
 use Rattle.sip.specs.declared.ParamAt.{ParamAt}
 use Rattle.sip.specs.declared.ParamsAt.{ParamsAt}
-use Rattle.sip.specs.declared.PartyAt.{PartyAt}
 use Rattle.sip.specs.Values.{address, sign, paramValue, paramRest, noParam, param, noParams, withParam, stops, params, noParty, party, tagOf}
 use Rattle.sip.proofs.Tests.{never, all-first, all-others}
 

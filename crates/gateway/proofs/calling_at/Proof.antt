@@ -1,5 +1,6 @@
 -- What judging found, case by case (Callers).
-use Rattle.gateway.proofs.Callers.{bad-trunk, refused-caller, good-trunk, count-is}
+use Rattle.judgement.proofs.Counted.{count-is}
+use Rattle.gateway.proofs.Callers.{bad-trunk, refused-caller, good-trunk}
 use Rattle.gateway.proofs.Top.{passes}
 use borrow.Author.Needs.{needs}
 use Rattle.gateway.proofs.calling_at.Statement.{statement}

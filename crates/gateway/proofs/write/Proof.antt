@@ -16,6 +16,9 @@ add-before c = search needs
 add-before-2 : tie.Need-add-before-2
 add-before-2 c = search needs
 
+bounded-requires : tie.Need-bounded-requires
+bounded-requires c κs = search needs
+
 put-message-requires : tie.Need-put-message-requires
 put-message-requires c κs = (search (told, needs), search (hidden, needs), search needs, search (sent-room, needs))
 
@@ -28,4 +31,4 @@ returns c = search (sent-wrote, needs)
 pub write-spec : {M : Type 1} → statement M
 write-spec =
     tie.close
-    (tie.spec sending-of-requires sent-set-requires add-before add-before-2 put-message-requires same-length returns)
+    (tie.spec sending-of-requires sent-set-requires add-before add-before-2 bounded-requires put-message-requires same-length returns)

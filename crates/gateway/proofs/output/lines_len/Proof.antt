@@ -13,8 +13,9 @@ use Rattle.lines.specs.Index.{slotAt}
 use Rattle.judgement.specs.Sets.{has}
 use Rattle.judgement.specs.Entries.{entryAt, entriesFrom}
 use Rattle.judgement.specs.Judges.{Tells, Told}
+use Rattle.judgement.proofs.Kept.{fits as slot-fits}
 use Rattle.gateway.specs.declared.Sending.{Sending}
-use Rattle.gateway.proofs.Lines.{sentAt, ToldFrom, linesFrom, lines-none, told-here, told-sent, told-not, lines-sent, lines-not, slot-within}
+use Rattle.gateway.proofs.Lines.{sentAt, ToldFrom, linesFrom, lines-none, told-here, told-sent, told-not, lines-sent, lines-not}
 use Rattle.gateway.proofs.output.lines_len.Statement.{statement}
 use Rattle.gateway.proofs.output.lines_len.Tie as tie
 
@@ -65,7 +66,7 @@ in-set-requires : tie.Need-in-set-requires Inv-loop μ-loop
 in-set-requires c κs = search needs
 
 line-len-requires : tie.Need-line-len-requires Inv-loop μ-loop
-line-len-requires c κs = search (tells, slot-within, needs)
+line-len-requires c κs = search (tells, slot-fits, needs)
 
 add-sum : tie.Need-add-sum Inv-loop μ-loop
 add-sum c = search needs

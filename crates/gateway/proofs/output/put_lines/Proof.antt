@@ -15,8 +15,9 @@ use Rattle.lines.specs.Index.{slotAt}
 use Rattle.judgement.specs.Sets.{has}
 use Rattle.judgement.specs.Entries.{entryAt, entriesFrom}
 use Rattle.judgement.specs.Judges.{Tells, Told}
+use Rattle.judgement.proofs.Kept.{fits as slot-fits}
 use Rattle.gateway.specs.declared.Sending.{Sending}
-use Rattle.gateway.proofs.Lines.{sentAt, ToldFrom, linesFrom, lines-none, told-here, told-sent, told-not, lines-sent, lines-not, slot-within}
+use Rattle.gateway.proofs.Lines.{sentAt, ToldFrom, linesFrom, lines-none, told-here, told-sent, told-not, lines-sent, lines-not}
 use Rattle.gateway.proofs.output.put_lines.Statement.{statement}
 use Rattle.gateway.proofs.output.put_lines.Tie as tie
 
@@ -86,7 +87,7 @@ in-set-requires : tie.Need-in-set-requires Inv-loop μ-loop
 in-set-requires c κs = search needs
 
 put-line-requires : tie.Need-put-line-requires Inv-loop μ-loop
-put-line-requires c κs = search (tells, fits, slot-within, needs)
+put-line-requires c κs = search (tells, fits, slot-fits, needs)
 
 add-i : tie.Need-add-i Inv-loop μ-loop
 add-i c = search needs
