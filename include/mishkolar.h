@@ -49,8 +49,8 @@ size_t mishkolar_reading(const uint8_t *message, size_t len, uint64_t field, uin
 
 /*
  * The calling number, with its plus sign: the length is returned. *from_trunk is 1 where it is the trunk number, else it stands in the
- * message from *start on. It is empty, and all three are 0, where the trunk number is no plus sign and 7 to 15 digits, the first not 0, or where the
- * message has a reason of 2 to 15 on side 0.
+ * message from *start on. It ends within the one or the other. It is empty, and all three are 0, where the trunk number is no plus sign
+ * and 7 to 15 digits, the first not 0, or where the message has a reason of 2 to 15 on side 0.
  */
 size_t mishkolar_calling_number(const uint8_t *message, size_t len, const uint8_t *trunk, size_t trunk_len,
                                 size_t *start, uint64_t *from_trunk);

@@ -64,6 +64,15 @@ digits-lowest (suc k) n =
 pub numeral-lowest : (n : ℕ) → lowest (length (numeral n)) n ≡ numeral n
 numeral-lowest n = sym (digits-lowest 5 n)
 
+-- ---- few digits
+
+module _ (n : ℕ) where
+  pub numeral-one : n < 10 → numeral n ≡ last n ∷ []
+  numeral-one h = one 4 n h
+
+  pub numeral-two : 10 ≤ n → n < 100 → numeral n ≡ last (n / 10) ∷ last n ∷ []
+  numeral-two l h = more 4 n l ∙ rw (one 3 (n / 10) (omega arith))
+
 -- ---- lengths
 
 module _ (n : ℕ) where

@@ -3,7 +3,7 @@ ghost use mathlib.Core.Path.{_≡_};
 ghost use mathlib.Core.List.{[], _∷_};
 ghost use Prim.Native.Nat.{_+_, _%_, _≤_, _<_};
 ghost use lib.Dec.{leb};
-ghost use lib.ListN.{length, take, drop};
+ghost use lib.ListN.{length};
 ghost use Rattle.sip.specs.Lines.{joined, folded, unfoldedAt};
 ghost use Rattle.sip.specs.Output.{numeral};
 ghost use Rattle.emit.specs.Put.{Wrote};
@@ -18,8 +18,8 @@ fn has_room(len: usize, at: usize, size: usize) -> bool
     at <= len - size
 }
 
-// Copies s byte by byte to the place, which has room for it, and returns the place after it.
-fn copy_few(out: &mut [u8], at: usize, s: &[u8]) -> usize
+// Copies s byte by byte to the place, which has room for it, and returns the place after it. Mostly it is one space.
+fn copy(out: &mut [u8], at: usize, s: &[u8]) -> usize
     requires { ⌜ at + length (now s) ≤ length (now out) ⌝ }
     ensures { λ r. ⌜ Wrote (now (out .entry)) at (now (s .entry)) r (now (out .exit)) ⌝ }
 {
@@ -31,52 +31,6 @@ fn copy_few(out: &mut [u8], at: usize, s: &[u8]) -> usize
     at + j
 }
 
-// The eight bytes from a place on.
-fn eight(s: &[u8], k: usize) -> [u8; 8]
-    requires { ⌜ k + 8 ≤ length (now s) ⌝ }
-    ensures { λ r. ⌜ r ≡ take 8 (drop k (now (s .entry))) ⌝ }
-{
-    [
-        s[k],
-        s[k + 1],
-        s[k + 2],
-        s[k + 3],
-        s[k + 4],
-        s[k + 5],
-        s[k + 6],
-        s[k + 7],
-    ]
-}
-
-// As `copy_few`, eight bytes at once: read before they are written, they move as one word. The last eight may overlap those before them.
-fn copy(out: &mut [u8], at: usize, s: &[u8]) -> usize
-    requires { ⌜ at + length (now s) ≤ length (now out) ⌝ }
-    ensures { λ r. ⌜ Wrote (now (out .entry)) at (now (s .entry)) r (now (out .exit)) ⌝ }
-{
-    if s.len() < 8 {
-        return copy_few(out, at, s);
-    }
-    let last = s.len() - 8;
-    let mut j = 0;
-    while j < last {
-        let word = eight(s, j);
-        copy_few(out, at + j, &word);
-        j += 8;
-    }
-    let word = eight(s, last);
-    copy_few(out, at + last, &word)
-}
-
-// Writes s at the place, and returns the place after it. Where there is no room the buffer and the place stay.
-pub fn put(out: &mut [u8], at: usize, s: &[u8]) -> usize
-    ensures { λ r. ⌜ Wrote (now (out .entry)) at (now (s .entry)) r (now (out .exit)) ⌝ }
-{
-    if has_room(out.len(), at, s.len()) {
-        return copy(out, at, s);
-    }
-    at
-}
-
 // The last digit of a number, as a byte.
 fn digit(n: usize) -> u8
     ensures { λ r. ⌜ r ≡ 48 + n % 10 ⌝ }
@@ -84,8 +38,8 @@ fn digit(n: usize) -> u8
     (48 + n % 10) as u8
 }
 
-// How many bytes `put_number` writes.
-pub fn numeral_len(n: usize) -> usize
+// How many bytes `put_five_digits` writes.
+pub fn five_digits_len(n: usize) -> usize
     ensures { λ r. ⌜ r ≡ length (numeral n) ⌝ }
 {
     if n < 10 {
@@ -103,12 +57,12 @@ pub fn numeral_len(n: usize) -> usize
     5
 }
 
-// Writes a number's digits without leading zeros, the last one first; of a number of more than five digits the last five. Where there is
-// no room the buffer and the place stay.
-pub fn put_number(out: &mut [u8], at: usize, n: usize) -> usize
+// Writes the digits of a number of at most five, without leading zeros; of a longer number the last five, zeros too. Where there is no
+// room the buffer and the place stay.
+pub fn put_five_digits(out: &mut [u8], at: usize, n: usize) -> usize
     ensures { λ r. ⌜ Wrote (now (out .entry)) at (numeral n) r (now (out .exit)) ⌝ }
 {
-    let size = numeral_len(n);
+    let size = five_digits_len(n);
     if !has_room(out.len(), at, size) {
         return at;
     }

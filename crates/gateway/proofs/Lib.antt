@@ -1,3 +1,4 @@
+pub mod Copies
 pub mod LongNames
 pub mod Lines
 pub mod Answers

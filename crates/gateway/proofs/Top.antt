@@ -1,7 +1,7 @@
 -- From what judging found to the whole answer: the text that is written is the outgoing message.
 use mathlib.Core.Path.{_≡_, refl, sym, ap, _∙_}
 use mathlib.Core.Bool.{Bool, true, false, cond, _&&_}
-use mathlib.Core.List.{List, [], _∷_, _++_, append-assoc}
+use mathlib.Core.List.{List, _∷_, _++_, append-assoc}
 use Prim.Native.Nat.{ℕ, _+_, _≤_, _<_}
 use native.Mathlib.Omega.{arith}
 use lib.Dec.{eqb, leb}
@@ -20,25 +20,19 @@ use Rattle.emit.proofs.Laws.{put-front, wrote-room}
 use Rattle.judgement.specs.declared.Judged.{Judged}
 use Rattle.judgement.specs.declared.Refusal.{Refusal}
 use Rattle.judgement.specs.Entries.{entriesFrom}
-use Rattle.judgement.specs.Judged.{judgedMessage}
-use Rattle.judgement.specs.Judges.{Told as JudgedTold, also as also-judged, Passes}
-use Rattle.judgement.proofs.Messages.{judges}
+use Rattle.judgement.specs.Judges.{Told, Passes, Judges}
+use Rattle.judgement.specs.Sets.{has}
 use Rattle.judgement.proofs.Parts.{parts}
-use Rattle.lines.specs.Index.{index}
 use Rattle.gateway.specs.declared.Sending.{Sending}
 use Rattle.gateway.specs.declared.Verdict.{Verdict}
 use Rattle.gateway.specs.declared.Verdict.the-variants.{Accepted, Refused}
-use Rattle.gateway.specs.Sending.{Told, nothing, also, sendingOf}
-use Rattle.gateway.specs.Sent.{sentMessage}
+use Rattle.gateway.specs.Sending.{sendingOf}
+use Rattle.gateway.specs.Sent.{Goes, sentMessage}
 use Rattle.gateway.specs.Verdicts.{numbersOf}
+use Rattle.gateway.proofs.Lines.{none-hidden, lines-kept, told-kept}
 use Rattle.gateway.proofs.Answers.{other-side, answer-refused, answer-full, answer-sent}
 
 -- ---- what the writer is told
-
-told-each : (w : Sending) (es : List Entry) → JudgedTold (w .hops) (w .tag) es → Told w es
-told-each w [] t = nothing
-told-each w (e ∷ es) (also-judged x t) =
-    also (record { hops = x .hops-are; tag = x .tag-is; tag-within = x .tag-within }) (told-each w es t)
 
 module _ (m slots : List ℕ) {j : Judged} (p : Passes m slots j) where
   abbrev before : ℕ
@@ -47,8 +41,16 @@ module _ (m slots : List ℕ) {j : Judged} (p : Passes m slots j) where
   abbrev es : List Entry
   es = entriesFrom (j .kept) m slots (j .count) 0
 
-  pub told : (masked : Bool) {w : Sending} → w ≡ sendingOf masked j → Told w es
-  told masked e = rw (e, ← p .fields-held) (told-each (sendingOf masked j) (p .request .fields) (p .told))
+  module _ (masked : Bool) {w : Sending} (ew : w ≡ sendingOf masked j) {sent : ℕ} (g : Goes masked (j .kept) sent) where
+    pub hidden : (w .masked && has sent 15) ≡ false
+    hidden = rw ew (none-hidden masked g)
+
+    module _ {count : ℕ} (ec : count ≡ j .count) where
+      pub told : Told (w .hops) (w .tag) (entriesFrom sent m slots count 0)
+      told = rw (ec, ew) (told-kept masked g m slots (j .hops) (j .tag) (j .count) 0 (rw (p .fields-held) at (p .told)))
+
+      lines-are : fieldLines (w .masked) (w .body) (entriesFrom sent m slots count 0) ≡ fieldLines masked (j .body) es
+      lines-are = rw (ec, ew) (lines-kept masked g m slots (j .body) (j .count) 0)
 
   -- ---- the outgoing message
 
@@ -80,24 +82,24 @@ module _ (m slots : List ℕ) {j : Judged} (p : Passes m slots j) where
       omega
       (arith, length-append (take before m) (text " SIP/2.0\r\n" ++ (lines ++ (crlf ++ last))), length-append lines (crlf ++ last))
 
-  pub sent-long : (masked : Bool) {w : Sending} → w ≡ sendingOf masked j → {fields : ℕ} → fields ≡ length (fieldLines (w .masked) (w .body) es)
-      → {len : ℕ} → len ≡ before + 10 + fields + 2 + j .body → len ≡ length (sentMessage m slots j masked)
-  sent-long masked {w} ew {fields} f a =
-      let g : fields ≡ length (fieldLines masked (j .body) es) = f ∙ rw ew in
-      omega (arith, sent-parts masked, body-size, length-take-le before m (p .line-within))
+  module _ (masked : Bool) {w : Sending} (ew : w ≡ sendingOf masked j) {sent : ℕ} (g : Goes masked (j .kept) sent) {count : ℕ} (ec : count ≡ j .count) where
+    abbrev lines : List ℕ
+    lines = fieldLines (w .masked) (w .body) (entriesFrom sent m slots count 0)
 
-  module _ (masked : Bool) {w : Sending} (ew : w ≡ sendingOf masked j) where
+    pub sent-long : {fields : ℕ} → fields ≡ length lines → {len : ℕ} → len ≡ before + 10 + fields + 2 + j .body
+        → len ≡ length (sentMessage m slots j masked)
+    sent-long f a =
+        omega (arith, ap length (lines-are masked ew g ec), sent-parts masked, body-size, length-take-le before m (p .line-within))
+
     pub sent-room : (d : List ℕ) → length (sentMessage m slots j masked) ≤ length d → {n : ℕ}
-        → n ≡ length (take before m) + (10 + (length (fieldLines (w .masked) (w .body) es) + (2 + length (take (w .body) (drop (j .rest) m)))))
-        → n ≤ length d
-    sent-room d l q = omega (arith, sent-parts masked, rw ew at q)
+        → n ≡ length (take before m) + (10 + (length lines + (2 + length (take (w .body) (drop (j .rest) m))))) → n ≤ length d
+    sent-room d l q = omega (arith, sent-parts masked, rw (lines-are masked ew g ec, ew) at q)
 
     pub sent-wrote : {d d′ : List ℕ} {n : ℕ}
-        → Wrote d 0
-        (take before m ++ (text " SIP/2.0\r\n" ++ (fieldLines (w .masked) (w .body) es ++ (crlf ++ take (w .body) (drop (j .rest) m))))) n d′
+        → Wrote d 0 (take before m ++ (text " SIP/2.0\r\n" ++ (lines ++ (crlf ++ take (w .body) (drop (j .rest) m))))) n d′
         → Wrote d 0 (sentMessage m slots j masked) n d′
     unfolding sentMessage
-    sent-wrote x = rw ew at x
+    sent-wrote x = rw (lines-are masked ew g ec, ew) at x
 
   module _ (masked : Bool) (room : ℕ) where
     abbrev long : ℕ
@@ -177,9 +179,9 @@ module _ (m slots : List ℕ) {j : Judged} (p : Passes m slots j) where
 -- ---- refusals before that
 
 module _ (m : List ℕ) (side : ℕ) (d : List ℕ) where
-  module _ {j : Judged} (e : j ≡ judgedMessage m) (h : side ≤ 1) (n : j .refusal .reason ≡ 0 → ⊥) where
+  module _ {slots : List ℕ} {j : Judged} (e : Judges m slots j) (h : side ≤ 1) (n : j .refusal .reason ≡ 0 → ⊥) where
     refused-is : screened m side d ≡ refusing (refusal (j .refusal .reason) (j .refusal .reply) (j .refusal .detail) (j .refusal .missing)) d
-    refused-is = answer-refused m side d h _ (judges m e refl .refuses n)
+    refused-is = answer-refused m side d h _ (e .refuses n)
 
     pub refused-answer : numbersOf (Refused (j .refusal)) ≡ screened m side d .answer
     refused-answer = sym (ap (λ (s : Screened). s .answer) refused-is)
@@ -195,5 +197,5 @@ module _ (m : List ℕ) (side : ℕ) (d : List ℕ) where
     side-buffer = sym (ap (λ (s : Screened). s .buffer) (other-side m side d h))
 
 -- what judging says of a request that no reason up to 15 refuses
-pub passes : (m : List ℕ) {j : Judged} → j ≡ judgedMessage m → {slots : List ℕ} → slots ≡ index m .slots → j .refusal .reason ≡ 0 → Passes m slots j
-passes m e s z = judges m e s .accepts z
+pub passes : (m slots : List ℕ) {j : Judged} → Judges m slots j → j .refusal .reason ≡ 0 → Passes m slots j
+passes m slots e z = e .accepts z

@@ -1,4 +1,4 @@
 pub mod Verdicts
 pub mod Sending
 pub mod Sent
-pub mod Identities
+pub mod Callers

@@ -1,19 +1,20 @@
--- What goes out: for one field, and for a message of which judging told this.
-use mathlib.Core.Bool.{Bool, cond, _&&_}
-use mathlib.Core.List.{List, [], _++_}
+-- What goes out of a message of which judging told this.
+use mathlib.Core.Path.{_≡_}
+use mathlib.Core.Bool.{Bool, not, _&&_}
+use mathlib.Core.List.{List, _++_}
 use Prim.Native.Nat.{ℕ, _+_}
 use lib.Dec.{eqb}
 use lib.ListN.{take, drop}
 use Rattle.octets.specs.Classes.{text}
 use Rattle.sip.specs.Lines.{crlf}
-use Rattle.sip.specs.Output.{sentValue, line, fieldLines}
-use Rattle.sip.specs.Refusals.{Entry}
+use Rattle.sip.specs.Output.{fieldLines}
 use Rattle.judgement.specs.declared.Judged.{Judged}
 use Rattle.judgement.specs.Entries.{entriesFrom}
+use Rattle.judgement.specs.Sets.{has}
 
--- its line, or nothing where the field is dropped
-unfoldable pub lineOf : Bool → ℕ → Entry → List ℕ
-lineOf masked body e = cond (masked && eqb (e .number) 15) [] (line (e .number) (sentValue masked body e))
+-- the set of the fields that go out: those kept, but P-Asserted-Identity where the caller is masked
+pub record Goes (masked : Bool) (kept sent : ℕ) : Type 0 where
+  pub member : (n : ℕ) → has sent n ≡ (has kept n && not (masked && eqb n 15))
 
 -- the bytes before the version, the version in capitals, the lines of the kept fields, the empty line, the body
 unfoldable pub sentMessage : List ℕ → List ℕ → Judged → Bool → List ℕ

@@ -2,27 +2,31 @@
 use judgement::Judged;
 use judgement::Refusal;
 ghost use mathlib.Core.Path.{_≡_};
-ghost use mathlib.Core.Bool.{true, cond, _&&_};
+ghost use mathlib.Core.Bool.{true, false, cond, _&&_};
 ghost use mathlib.Core.List.{_++_};
-ghost use Prim.Native.Nat.{_+_, _^_, _≤_, _<_};
+ghost use Prim.Native.Nat.{_+_, _≤_, _<_};
 ghost use lib.Dec.{eqb, leb};
 ghost use lib.ListN.{length, take, drop};
 ghost use Rattle.octets.specs.Classes.{text};
 ghost use Rattle.octets.specs.Scans.{same};
-ghost use Rattle.sip.specs.Lines.{crlf, folded};
+ghost use Rattle.sip.specs.Lines.{crlf};
 ghost use Rattle.sip.specs.Output.{fieldLines};
 ghost use Rattle.sip.specs.Refusals.{refusal};
-ghost use Rattle.sip.specs.Readings.{part, noCalling, callerAt, callingAt, callingPart, callingNumber};
+ghost use Rattle.sip.specs.Readings.{place, noCalling, callingPart, callingNumber};
 ghost use Rattle.sip.specs.Screen.{screened};
-ghost use Rattle.sip.specs.Values.{isIdentity, isGlobal};
+ghost use Rattle.sip.specs.Values.{isGlobal};
 ghost use Rattle.emit.specs.Put.{Wrote};
-ghost use Rattle.judgement.specs.Entries.{entriesFrom};
-ghost use Rattle.judgement.specs.Judges.{Passes};
-ghost use Rattle.gateway.specs.Identities.{Identified};
-ghost use Rattle.gateway.specs.Sending.{Told, sendingOf};
+ghost use Rattle.lines.specs.Index.{index};
+ghost use Rattle.lines.specs.Passes.{firstSlots, spansIn};
+ghost use Rattle.judgement.specs.Entries.{Within, entriesFrom};
+ghost use Rattle.judgement.specs.Judges.{Told, Passes};
+ghost use Rattle.judgement.specs.Sets.{has};
+ghost use Rattle.gateway.specs.Callers.{Calling};
+ghost use Rattle.gateway.specs.Sending.{sendingOf};
 ghost use Rattle.gateway.specs.Sent.{sentMessage};
 ghost use Rattle.gateway.specs.Verdicts.{numbersOf};
 
+mod copy;
 mod names;
 mod output;
 
@@ -34,7 +38,7 @@ pub enum Verdict {
 
 // What of the outgoing message the kept values do not say by themselves: whether the caller is masked, what Max-Forwards says, the length
 // of the body, and where the tag stands in From's value.
-pub struct Sending {
+pub(crate) struct Sending {
     pub masked: bool,
     pub hops: usize,
     pub body: usize,
@@ -53,35 +57,47 @@ fn sending_of(j: Judged, masked: bool) -> Sending
     }
 }
 
-// The start line, of which `before` bytes stand before the version, the lines of the kept fields, and the body, which is at `rest`.
+// The start line, of which `before` bytes stand before the version, the lines of the fields that go out, and the body, which is at `rest`.
 fn put_message(
     out: &mut [u8],
     message: &[u8],
     before: usize,
     rest: usize,
-    kept: u32,
+    sent: u32,
     slots: &[u16; 384],
     count: usize,
     w: Sending,
 ) -> usize
     requires { ⌜
-        Told w (entriesFrom kept (now message) (now slots) count 0) × (length (now message) ≤ 8192)
+        Told (w .hops) (w .tag) (entriesFrom sent (now message) (now slots) count 0) × ((w .masked && has sent 15) ≡ false)
+        × Within (now message) (now slots)
         × (length (take before (now message))
-        + (10 + (length (fieldLines (w .masked) (w .body) (entriesFrom kept (now message) (now slots) count 0))
+        + (10 + (length (fieldLines (w .masked) (w .body) (entriesFrom sent (now message) (now slots) count 0))
         + (2 + length (take (w .body) (drop rest (now message)))))) ≤ length (now out))
         ⌝ }
     ensures { λ r. ⌜
         Wrote (now (out .entry)) 0
         (take before (now (message .entry))
         ++ (text " SIP/2.0\r\n"
-        ++ (fieldLines (w .masked) (w .body) (entriesFrom kept (now (message .entry)) (now (slots .entry)) count 0)
+        ++ (fieldLines (w .masked) (w .body) (entriesFrom sent (now (message .entry)) (now (slots .entry)) count 0)
         ++ (crlf ++ take (w .body) (drop rest (now (message .entry)))))))
         r (now (out .exit))
         ⌝ }
 {
     let fields = output::put_start(out, message, before);
-    let end = output::put_lines(out, fields, message, kept, slots, count, w);
+    let end = output::put_lines(out, fields, message, sent, slots, count, w);
     output::put_body(out, end, message, rest, w.body)
+}
+
+// The number of slots. That it is at most 96 is said for the compiler, which then drops the test for a slot past the 96 in each turn.
+fn bounded(count: usize) -> usize
+    requires { ⌜ count ≤ 96 ⌝ }
+    ensures { λ r. ⌜ r ≡ count ⌝ }
+{
+    if 96 < count {
+        return 96;
+    }
+    count
 }
 
 // The outgoing message at the front of the buffer, which has room for it.
@@ -90,8 +106,10 @@ fn write(out: &mut [u8], message: &[u8], slots: &[u16; 384], j: Judged, masked: 
     ensures { λ r. ⌜ Wrote (now (out .entry)) 0 (sentMessage (now (message .entry)) (now (slots .entry)) j masked) r (now (out .exit)) ⌝ }
 {
     let w = sending_of(j, masked);
+    let sent = output::sent_set(j.kept, masked);
     let before = j.method + 1 + j.uri;
-    put_message(out, message, before, j.rest, j.kept, slots, j.count, w)
+    let count = bounded(j.count);
+    put_message(out, message, before, j.rest, sent, slots, count, w)
 }
 
 // The length of the outgoing message.
@@ -100,8 +118,9 @@ fn sent_len(message: &[u8], slots: &[u16; 384], j: Judged, masked: bool) -> usiz
     ensures { λ r. ⌜ r ≡ length (sentMessage (now (message .entry)) (now (slots .entry)) j masked) ⌝ }
 {
     let w = sending_of(j, masked);
+    let sent = output::sent_set(j.kept, masked);
     let before = j.method + 1 + j.uri;
-    let fields = output::lines_len(message, j.kept, slots, j.count, w);
+    let fields = output::lines_len(message, sent, slots, j.count, w);
     before + 10 + fields + 2 + j.body
 }
 
@@ -204,25 +223,22 @@ pub fn screen(message: &[u8], side: u64, out: &mut [u8]) -> Verdict
     deliver(message, side, out, &slots, j)
 }
 
-// The number of an asserted identity, whose value is this part of the message. Its canonical form is read; nothing in a number is
-// folded, so it stands in the message as it is.
-fn caller_at(message: &[u8], p: sip::Span) -> sip::CallingAt
-    requires { ⌜
-        (isIdentity (folded 0 (part p (now message))) ≡ true) × (length (part p (now message)) ≤ 8192) × (p .start < 2 ^ 32)
-        ⌝ }
-    ensures { λ r. ⌜ r ≡ callerAt (now (message .entry)) p (folded 0 (part p (now (message .entry)))) ⌝ }
+// Where the value of the first field of number n stands, by the first `count` slots; no part where there is none.
+fn first_of(slots: &[u16; 384], count: usize, n: usize) -> sip::Span
+    ensures { λ r. ⌜ (r ≡ place 1 (spansIn n (firstSlots count (now (slots .entry))))) × (r .start < 65536) ⌝ }
 {
-    let start = p.start;
-    let value = octets::part(message, start, p.len);
-    let mut scratch = [0u8; 8192];
-    let len = emit::put_folded(&mut scratch, 0, value);
-    let number = values::identity(octets::first(&scratch, len));
-    let place = start + emit::unfolded_at(value, number.start);
-    sip::CallingAt {
-        from_trunk: false,
-        start: place,
-        len: number.len,
+    let mut i = 0;
+    while i < count {
+        let s = lines::slot_at(slots, i);
+        if s.number == n {
+            return sip::Span {
+                start: s.start,
+                len: s.len,
+            };
+        }
+        i += 1;
     }
+    sip::Span { start: 0, len: 0 }
 }
 
 fn no_calling() -> sip::CallingAt
@@ -245,24 +261,34 @@ fn whole_trunk(len: usize) -> sip::CallingAt
     }
 }
 
-// The calling number of an accepted message, where the trunk number is good.
-fn calling_accepted(message: &[u8], trunk: &[u8], kept: u32) -> sip::CallingAt
-    requires { ⌜ Identified (now message) kept × (isGlobal (now trunk) ≡ true) ⌝ }
-    ensures { λ r. ⌜ r ≡ callingAt (now (message .entry)) (now (trunk .entry)) ⌝ }
+// The calling number of an accepted message, where the trunk number is good. The judge says where the number stands in the canonical
+// identity; nothing in a number is folded, so it stands in the message as it is.
+fn calling_accepted(message: &[u8], trunk: &[u8], slots: &[u16; 384], j: Judged) -> sip::CallingAt
+    requires { ⌜
+        Passes (now message) (now slots) j
+        × (now slots ≡ index (now message) .slots)
+        × (j .count ≡ index (now message) .head .count)
+        × (isGlobal (now trunk) ≡ true)
+        ⌝ }
+    ensures { λ r. ⌜ Calling (now (message .entry)) (now (trunk .entry)) r ⌝ }
 {
-    if !judgement::in_set(kept, 15) {
+    let number = j.number;
+    if number.len == 0 {
         return whole_trunk(trunk.len());
     }
-    let p = lines::reading_at(message, 15, 1);
-    if p.len == 0 {
-        return whole_trunk(trunk.len());
+    let p = first_of(slots, j.count, 15);
+    let value = octets::part(message, p.start, p.len);
+    let start = p.start + emit::unfolded_at(value, number.start);
+    sip::CallingAt {
+        from_trunk: false,
+        start,
+        len: number.len,
     }
-    caller_at(message, p)
 }
 
-// The calling number, as a part of the message or of the trunk number.
+// The calling number, as a part of the message or of the trunk number, within which it lies.
 pub fn calling_at(message: &[u8], trunk: &[u8]) -> sip::CallingAt
-    ensures { λ r. ⌜ r ≡ callingAt (now (message .entry)) (now (trunk .entry)) ⌝ }
+    ensures { λ r. ⌜ Calling (now (message .entry)) (now (trunk .entry)) r ⌝ }
 {
     if !values::is_global(trunk) {
         return no_calling();
@@ -273,7 +299,7 @@ pub fn calling_at(message: &[u8], trunk: &[u8]) -> sip::CallingAt
     if r.reason != 0 {
         return no_calling();
     }
-    calling_accepted(message, trunk, j.kept)
+    calling_accepted(message, trunk, &slots, j)
 }
 
 // The calling number itself: that part.

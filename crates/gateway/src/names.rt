@@ -1,7 +1,8 @@
 // The long names of the listed fields.
+use crate::copy;
 ghost use mathlib.Core.Path.{_≡_};
 ghost use mathlib.Core.List.{[], _∷_, _++_};
-ghost use Prim.Native.Nat.{_≤_};
+ghost use Prim.Native.Nat.{_+_, _≤_};
 ghost use lib.ListN.{length};
 ghost use Rattle.emit.specs.Put.{Wrote};
 ghost use Rattle.sip.specs.Profile.{nameOf};
@@ -27,27 +28,28 @@ pub(crate) fn name_len(n: usize) -> usize
 
 // Writes the front of a field's line, the long name, colon and one space, and returns the place after it.
 pub(crate) fn put_front(out: &mut [u8], at: usize, n: usize) -> usize
+    requires { ⌜ at + (length (nameOf n) + 2) ≤ length (now out) ⌝ }
     ensures { λ r. ⌜ Wrote (now (out .entry)) at (nameOf n ++ 58 ∷ 32 ∷ []) r (now (out .exit)) ⌝ }
 {
     match n {
-        1 => emit::put(out, at, b"Via: "),
-        2 => emit::put(out, at, b"Max-Forwards: "),
-        3 => emit::put(out, at, b"From: "),
-        4 => emit::put(out, at, b"To: "),
-        5 => emit::put(out, at, b"Call-ID: "),
-        6 => emit::put(out, at, b"CSeq: "),
-        7 => emit::put(out, at, b"Contact: "),
-        8 => emit::put(out, at, b"Content-Length: "),
-        9 => emit::put(out, at, b"Content-Type: "),
-        10 => emit::put(out, at, b"Route: "),
-        11 => emit::put(out, at, b"Reason: "),
-        12 => emit::put(out, at, b"Allow: "),
-        13 => emit::put(out, at, b"Supported: "),
-        14 => emit::put(out, at, b"Require: "),
-        15 => emit::put(out, at, b"P-Asserted-Identity: "),
-        16 => emit::put(out, at, b"Privacy: "),
-        17 => emit::put(out, at, b"Accept: "),
-        18 => emit::put(out, at, b"Record-Route: "),
-        _ => emit::put(out, at, b": "),
+        1 => copy::few(out, at, b"Via: "),
+        2 => copy::few(out, at, b"Max-Forwards: "),
+        3 => copy::few(out, at, b"From: "),
+        4 => copy::few(out, at, b"To: "),
+        5 => copy::few(out, at, b"Call-ID: "),
+        6 => copy::few(out, at, b"CSeq: "),
+        7 => copy::few(out, at, b"Contact: "),
+        8 => copy::few(out, at, b"Content-Length: "),
+        9 => copy::few(out, at, b"Content-Type: "),
+        10 => copy::few(out, at, b"Route: "),
+        11 => copy::few(out, at, b"Reason: "),
+        12 => copy::few(out, at, b"Allow: "),
+        13 => copy::few(out, at, b"Supported: "),
+        14 => copy::few(out, at, b"Require: "),
+        15 => copy::few(out, at, b"P-Asserted-Identity: "),
+        16 => copy::few(out, at, b"Privacy: "),
+        17 => copy::few(out, at, b"Accept: "),
+        18 => copy::few(out, at, b"Record-Route: "),
+        _ => copy::few(out, at, b": "),
     }
 }

@@ -15,3 +15,4 @@ pub mod Reasons
 pub mod Parts
 pub mod Judging
 pub mod Messages
+pub mod Counted

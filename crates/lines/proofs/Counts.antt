@@ -51,7 +51,7 @@ place-last (suc (suc k)) (q ∷ ps) p =
     rw (z, eqb-suc (length ps + 1) (suc k)) (place-last (suc k) ps p)
 
 module _ (n : ℕ) where
-  spans-last : (ss : List Slot) (s : Slot) → spansIn n (ss ++ s ∷ []) ≡ cond (eqb (s .number) n) (spansIn n ss ++ spanOf s ∷ []) (spansIn n ss)
+  pub spans-last : (ss : List Slot) (s : Slot) → spansIn n (ss ++ s ∷ []) ≡ cond (eqb (s .number) n) (spansIn n ss ++ spanOf s ∷ []) (spansIn n ss)
   unfolding spansIn
   spans-last [] s = refl
   spans-last (r ∷ ss) s = go (eqb (r .number) n) (eqb (s .number) n) (spansIn n (ss ++ s ∷ [])) (spansIn n ss) (spans-last ss s)

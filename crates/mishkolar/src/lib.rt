@@ -4,10 +4,10 @@ ghost use mathlib.Core.Path.{_≡_};
 ghost use Prim.Native.Nat.{_+_, _≤_};
 ghost use lib.ListN.{length};
 ghost use Rattle.causes.specs.Causes.{status, cause};
-ghost use Rattle.sip.specs.Readings.{count, readingAt, callingAt};
+ghost use Rattle.sip.specs.Readings.{count, readingAt};
 ghost use Rattle.octets.specs.Classes.{bit};
 ghost use Rattle.sip.specs.Screen.{screened};
-ghost use Rattle.mishkolar.specs.Numbers.{Screens};
+ghost use Rattle.mishkolar.specs.Numbers.{Screens, Calls};
 
 #[no_mangle]
 pub extern "C" fn mishkolar_screen(
@@ -85,7 +85,7 @@ pub extern "C" fn mishkolar_calling_number(
     start: &mut usize,
     from_trunk: &mut u64,
 ) -> usize
-    ensures { λ r. ⌜ (r ≡ callingAt (now (message .entry)) (now (trunk .entry)) .len) × (now (start .exit) ≡ callingAt (now (message .entry)) (now (trunk .entry)) .start) × (now («from_trunk» .exit) ≡ bit (callingAt (now (message .entry)) (now (trunk .entry)) .«from_trunk»)) ⌝ }
+    ensures { λ r. ⌜ Calls (now (message .entry)) (now (trunk .entry)) r (now (start .exit)) (now («from_trunk» .exit)) ⌝ }
 {
     let p = gateway::calling_at(message, trunk);
     *start = p.start;

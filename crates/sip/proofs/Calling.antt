@@ -1,29 +1,26 @@
 -- The calling number stands as a part in the message or the trunk number: `callingPart` is `callingNumber`.
 use mathlib.Core.Path.{_≡_, refl, sym, ap, _∙_}
-use mathlib.Core.Bool.{Bool, true, false, cond, _||_}
+use mathlib.Core.Bool.{Bool, true, false}
 use mathlib.Core.List.{List, [], _∷_}
 use mathlib.Core.Option.{Option, none, some}
 use Prim.Native.Nat.{ℕ, zero, suc, _+_, _≤_}
 use native.Mathlib.Omega.{arith}
-use lib.Dec.{eqb}
 use lib.ListN.{length, take, drop, length-take, length-drop}
 use lib.Seq.{length-take-le, take-length, take-take, drop-drop}
-use borrow.Author.Tests.{eqb-true, eqb-false}
 use Rattle.octets.specs.Classes.{isGap}
 use Rattle.sip.specs.declared.Span.{Span}
 use Rattle.octets.specs.Scans.{any}
 use Rattle.sip.specs.Lines.{Start, Header, folded, unfoldedAt}
-use Rattle.sip.specs.Profile.{columnOf, ignored}
+use Rattle.sip.specs.Profile.{columnOf}
 use Rattle.sip.specs.Values.{address, personSize, person, identity, isGlobal, isIdentity}
 use Rattle.sip.specs.Refusals.{Lines, lines, unread, read, refusal, valueOf, wellFormed}
 use Rattle.sip.specs.Refusals.{Request, Judgement, refused, accepted, judged, keptOf, judgement}
 use Rattle.sip.specs.Readings.{part, readingAt, reading, callerAt, callingNumber, callingAt, callingPart}
 use Rattle.sip.proofs.Tests.{never}
-use Rattle.sip.proofs.Canonical.{folded-le}
 use Rattle.sip.proofs.Unfolded.{unfolded-le, unfolded-part}
 use Rattle.sip.proofs.Accepted.{judged-inv, value-formed}
 use Rattle.sip.proofs.Identities.{identity-inv}
-use Rattle.sip.proofs.Firsts.{ignored-none, reading-length, kept-reading, reading-kept}
+use Rattle.sip.proofs.Firsts.{kept-reading}
 
 -- ---- an identity where it stands
 
@@ -75,37 +72,9 @@ module _ (m : List ℕ) (p : Span) (v : List ℕ) (e : isIdentity v ≡ true) (q
 -- ---- the identity of an accepted message
 
 module _ (m : List ℕ) (l : Start) (h : Header) (e : lines m ≡ read l h) (r : Request) (a : judged l (keptOf l (h .fields)) (h .rest) ≡ accepted r) where
-  pub identity-formed : (v : List ℕ) → valueOf 15 (keptOf l (h .fields)) ≡ some v → isIdentity v ≡ true
+  identity-formed : (v : List ℕ) → valueOf 15 (keptOf l (h .fields)) ≡ some v → isIdentity v ≡ true
   unfolding wellFormed
   identity-formed v q = value-formed (l .method) (keptOf l (h .fields)) 15 v (judged-inv l (keptOf l (h .fields)) (h .rest) r a .formed) q
-
-  pub identity-read :
-      valueOf 15 (keptOf l (h .fields))
-      ≡ cond (ignored (columnOf (l .method) false) 15 || eqb (readingAt m 15 1 .len) 0) none (some (folded 0 (reading m 15 1)))
-  identity-read = go (ignored (columnOf (l .method) false) 15) (eqb (readingAt m 15 1 .len) 0) refl refl
-    where
-      len : ℕ
-      len = readingAt m 15 1 .len
-
-      empty : len ≡ 0 → (o : Option (List ℕ)) → valueOf 15 (keptOf l (h .fields)) ≡ o → o ≡ none
-      empty z none q = refl
-      empty z (some v) q =
-          let w : v ≡ folded 0 (reading m 15 1) = kept-reading m l h e 15 (omega arith) (columnOf (l .method) false) v q in
-          absurd
-          (omega (
-            arith,
-            identity-inv v (identity-formed v q) .long,
-            ap length w,
-            folded-le (reading m 15 1),
-            reading-length m l h e 15 (omega arith),
-            z,
-          ))
-
-      go : (t u : Bool) → ignored (columnOf (l .method) false) 15 ≡ t → eqb len 0 ≡ u
-          → valueOf 15 (keptOf l (h .fields)) ≡ cond (t || u) none (some (folded 0 (reading m 15 1)))
-      go true u i z = ignored-none (columnOf (l .method) false) 15 i (h .fields)
-      go false true i z = empty (eqb-true len 0 z) (valueOf 15 (keptOf l (h .fields))) refl
-      go false false i z = reading-kept m l h e 15 (omega arith) (columnOf (l .method) false) i (omega (arith, eqb-false len 0 z))
 
 -- ---- the calling number
 

@@ -13,7 +13,6 @@ use Rattle.sip.specs.declared.Column.{Column}
 use Rattle.sip.specs.declared.Span.{Span}
 use Rattle.sip.specs.Lines.{Start, startSize, Header, Field, bytes, folded, trim, canonical}
 use Rattle.sip.specs.Profile.{numberOf, ignored}
-use Rattle.sip.specs.Values.{isEmpty}
 use Rattle.sip.specs.Refusals.{lines, read, kept, valueOf}
 use Rattle.sip.specs.Readings.{noSpan, part, valueSpan, valueSpans, spans, place, readingAt, reading}
 use Rattle.sip.specs.Change.{headerBytes}
@@ -67,7 +66,7 @@ module _ (m rest : List ℕ) (n : ℕ) (p : Placed) where
       go false e h = h e
 
 module _ (m : List ℕ) (l : Start) (h : Header) (e : lines m ≡ read l h) (n : ℕ) (listed : 0 < n) where
-  pub reading-at : readingAt m n 1 ≡ spanOf (firstField n (startSize l) (h .fields))
+  reading-at : readingAt m n 1 ≡ spanOf (firstField n (startSize l) (h .fields))
   unfolding readingAt spans
   reading-at = rw (e, ne-eqb n 0 (λ q. omega arith)) (first-span n (startSize l) (h .fields))
 
@@ -77,9 +76,6 @@ module _ (m : List ℕ) (l : Start) (h : Header) (e : lines m ≡ read l h) (n :
   reading-first p q =
       let r : readingAt m n 1 ≡ valueSpan (p .at) (p .field) = reading-at ∙ rw q in
       (r, rw r (first-part m (h .rest) n p (startSize l) (h .fields) (read-parts m l h e .header-part) q))
-
-  pub reading-none : firstField n (startSize l) (h .fields) ≡ none → readingAt m n 1 ≡ noSpan
-  reading-none q = reading-at ∙ rw q
 
 -- ---- what is kept of it
 
@@ -114,28 +110,9 @@ module _ (c : Option Column) (n : ℕ) where
 
 -- ---- what is kept is what is read
 
--- the length of a value where it stands
-span-length : (at : ℕ) (f : Field) → length (trim isGap (f .value)) ≡ valueSpan at f .len
-unfolding valueSpan isEmpty
-span-length at f = go (trim isGap (f .value)) refl
-  where
-    go : (v : List ℕ) → trim isGap (f .value) ≡ v → length (trim isGap (f .value)) ≡ valueSpan at f .len
-    go [] e = rw e
-    go (b ∷ v) e = rw e
-
 module _ (m : List ℕ) (l : Start) (h : Header) (e : lines m ≡ read l h) (n : ℕ) (listed : 0 < n) where
   first : Option Placed
   first = firstField n (startSize l) (h .fields)
-
-  pub reading-length : length (reading m n 1) ≡ readingAt m n 1 .len
-  unfolding first reading
-  reading-length = go first refl
-    where
-      go : (o : Option Placed) → first ≡ o → length (reading m n 1) ≡ readingAt m n 1 .len
-      go none q = rw (reading-none m l h e n listed q)
-      go (some p) q =
-          let (x, y) = reading-first m l h e n listed p q in
-          ap length y ∙ span-length (p .at) (p .field) ∙ ap (λ (s : Span). s .len) (sym x)
 
   module _ (c : Option Column) where
     first-kept : ignored c n ≡ false → (p : Placed) → first ≡ some p → valueOf n (kept c (h .fields)) ≡ some (folded 0 (reading m n 1))
@@ -153,11 +130,3 @@ module _ (m : List ℕ) (l : Start) (h : Header) (e : lines m ≡ read l h) (n :
         go true o i q = never (cc (ignored-none c n i (h .fields)))
         go false none i q = let z : valueOf n (kept c (h .fields)) ≡ none = kept-first c n i (startSize l) (h .fields) ∙ rw q in never (cc)
         go false (some p) i q = cc (first-kept i p q)
-
-    pub reading-kept : ignored c n ≡ false → 0 < readingAt m n 1 .len → valueOf n (kept c (h .fields)) ≡ some (folded 0 (reading m n 1))
-    unfolding first
-    reading-kept i long = go first refl
-      where
-        go : (o : Option Placed) → first ≡ o → valueOf n (kept c (h .fields)) ≡ some (folded 0 (reading m n 1))
-        go none q = absurd (omega (arith, ap (λ (s : Span). s .len) (reading-none m l h e n listed q)))
-        go (some p) q = first-kept i p q

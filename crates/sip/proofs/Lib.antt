@@ -22,5 +22,6 @@ pub mod Within
 pub mod Firsts
 pub mod Addresses
 pub mod Identities
+pub mod Tags
 pub mod Calling
 pub mod Grammar

@@ -1,5 +1,7 @@
 -- What judging found, case by case (Callers).
-use Rattle.gateway.proofs.Callers.{bad-trunk, refused-caller, good-trunk, identified}
+use Rattle.judgement.proofs.Counted.{count-is}
+use Rattle.gateway.proofs.Callers.{bad-trunk, refused-caller, good-trunk}
+use Rattle.gateway.proofs.Top.{passes}
 use borrow.Author.Needs.{needs}
 use Rattle.gateway.proofs.calling_at.Statement.{statement}
 use Rattle.gateway.proofs.calling_at.Tie as tie
@@ -23,7 +25,7 @@ returns-2 : tie.Need-returns-2
 returns-2 c = search (refused-caller, needs)
 
 calling-accepted-requires : tie.Need-calling-accepted-requires
-calling-accepted-requires c κs = (search (identified, needs), search (good-trunk, needs))
+calling-accepted-requires c κs = (search (passes, needs), search needs, search (count-is, needs), search (good-trunk, needs))
 
 returns-3 : tie.Need-returns-3
 returns-3 c = search needs

@@ -1,11 +1,14 @@
 -- What is measured is the outgoing message (Top).
-use Rattle.gateway.proofs.Top.{told, sent-long}
+use Rattle.gateway.proofs.Top.{told, hidden, sent-long}
 use borrow.Author.Needs.{needs}
 use Rattle.gateway.proofs.sent_len.Statement.{statement}
 use Rattle.gateway.proofs.sent_len.Tie as tie
 
 sending-of-requires : tie.Need-sending-of-requires
 sending-of-requires c κs = search needs
+
+sent-set-requires : tie.Need-sent-set-requires
+sent-set-requires c κs = search needs
 
 add-before : tie.Need-add-before
 add-before c = search needs
@@ -14,7 +17,7 @@ add-before-2 : tie.Need-add-before-2
 add-before-2 c = search needs
 
 lines-len-requires : tie.Need-lines-len-requires
-lines-len-requires c κs = search (told, needs)
+lines-len-requires c κs = search (told, hidden, needs)
 
 add-result : tie.Need-add-result
 add-result c = search needs
@@ -36,6 +39,7 @@ sent-len-spec =
     tie.close
     (tie.spec
     sending-of-requires
+    sent-set-requires
     add-before
     add-before-2
     lines-len-requires

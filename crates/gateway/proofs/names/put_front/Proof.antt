@@ -2,7 +2,8 @@
 use mathlib.Core.Path.{_≡_}
 use mathlib.Core.Bool.{false}
 use mathlib.Core.List.{List, [], _∷_, _++_, map}
-use Prim.Native.Nat.{ℕ}
+use Prim.Native.Nat.{ℕ, _+_, _≤_}
+use lib.ListN.{length}
 use borrow.Author.Tests.{ne-eqb}
 use Rattle.octets.specs.Classes.{among, text}
 use Rattle.sip.specs.Profile.{Row, nameOf, find, rows}
@@ -17,6 +18,9 @@ colon = 58 ∷ 32 ∷ []
 
 named : (k : ℕ) {n : ℕ} → n ≡ k → {d : List ℕ} {at r : ℕ} {d′ : List ℕ} → Wrote d at (nameOf k ++ colon) r d′ → Wrote d at (nameOf n ++ colon) r d′
 named k e w = rw e w
+
+fits : (k : ℕ) {n : ℕ} → n ≡ k → (d : List ℕ) (at : ℕ) → at + (length (nameOf n) + 2) ≤ length d → at + (length (nameOf k) + 2) ≤ length d
+fits k e d at h = rw e at h
 
 unlisted : (n : ℕ) → (n ≡ 1 → ⊥) → (n ≡ 2 → ⊥) → (n ≡ 3 → ⊥) → (n ≡ 4 → ⊥) → (n ≡ 5 → ⊥) → (n ≡ 6 → ⊥) → (n ≡ 7 → ⊥) → (n ≡ 8 → ⊥) → (n ≡ 9 → ⊥)
     → (n ≡ 10 → ⊥) → (n ≡ 11 → ⊥) → (n ≡ 12 → ⊥) → (n ≡ 13 → ⊥) → (n ≡ 14 → ⊥) → (n ≡ 15 → ⊥) → (n ≡ 16 → ⊥) → (n ≡ 17 → ⊥) → (n ≡ 18 → ⊥)
@@ -47,119 +51,137 @@ unlisted n h1 h2 h3 h4 h5 h6 h7 h8 h9 h10 h11 h12 h13 h14 h15 h16 h17 h18 w =
     let empty : nameOf n ≡ [] = rw (nameOf, find-none rows n none-listed) in
     rw empty w
 
-slice-aggregate-put : tie.Need-slice-aggregate-put
-slice-aggregate-put c = search needs
+slice-aggregate-few : tie.Need-slice-aggregate-few
+slice-aggregate-few c = search needs
 
-put-requires : tie.Need-put-requires
-put-requires c κs = search needs
+few-requires : tie.Need-few-requires
+unfolding nameOf find rows text
+few-requires c κs = search (fits 1)
 
-slice-aggregate-put-2 : tie.Need-slice-aggregate-put-2
-slice-aggregate-put-2 c = search needs
+slice-aggregate-few-2 : tie.Need-slice-aggregate-few-2
+slice-aggregate-few-2 c = search needs
 
-put-requires-2 : tie.Need-put-requires-2
-put-requires-2 c κs = search needs
+few-requires-2 : tie.Need-few-requires-2
+unfolding nameOf find rows text
+few-requires-2 c κs = search (fits 2)
 
-slice-aggregate-put-3 : tie.Need-slice-aggregate-put-3
-slice-aggregate-put-3 c = search needs
+slice-aggregate-few-3 : tie.Need-slice-aggregate-few-3
+slice-aggregate-few-3 c = search needs
 
-put-requires-3 : tie.Need-put-requires-3
-put-requires-3 c κs = search needs
+few-requires-3 : tie.Need-few-requires-3
+unfolding nameOf find rows text
+few-requires-3 c κs = search (fits 3)
 
-slice-aggregate-put-4 : tie.Need-slice-aggregate-put-4
-slice-aggregate-put-4 c = search needs
+slice-aggregate-few-4 : tie.Need-slice-aggregate-few-4
+slice-aggregate-few-4 c = search needs
 
-put-requires-4 : tie.Need-put-requires-4
-put-requires-4 c κs = search needs
+few-requires-4 : tie.Need-few-requires-4
+unfolding nameOf find rows text
+few-requires-4 c κs = search (fits 4)
 
-slice-aggregate-put-5 : tie.Need-slice-aggregate-put-5
-slice-aggregate-put-5 c = search needs
+slice-aggregate-few-5 : tie.Need-slice-aggregate-few-5
+slice-aggregate-few-5 c = search needs
 
-put-requires-5 : tie.Need-put-requires-5
-put-requires-5 c κs = search needs
+few-requires-5 : tie.Need-few-requires-5
+unfolding nameOf find rows text
+few-requires-5 c κs = search (fits 5)
 
-slice-aggregate-put-6 : tie.Need-slice-aggregate-put-6
-slice-aggregate-put-6 c = search needs
+slice-aggregate-few-6 : tie.Need-slice-aggregate-few-6
+slice-aggregate-few-6 c = search needs
 
-put-requires-6 : tie.Need-put-requires-6
-put-requires-6 c κs = search needs
+few-requires-6 : tie.Need-few-requires-6
+unfolding nameOf find rows text
+few-requires-6 c κs = search (fits 6)
 
-slice-aggregate-put-7 : tie.Need-slice-aggregate-put-7
-slice-aggregate-put-7 c = search needs
+slice-aggregate-few-7 : tie.Need-slice-aggregate-few-7
+slice-aggregate-few-7 c = search needs
 
-put-requires-7 : tie.Need-put-requires-7
-put-requires-7 c κs = search needs
+few-requires-7 : tie.Need-few-requires-7
+unfolding nameOf find rows text
+few-requires-7 c κs = search (fits 7)
 
-slice-aggregate-put-8 : tie.Need-slice-aggregate-put-8
-slice-aggregate-put-8 c = search needs
+slice-aggregate-few-8 : tie.Need-slice-aggregate-few-8
+slice-aggregate-few-8 c = search needs
 
-put-requires-8 : tie.Need-put-requires-8
-put-requires-8 c κs = search needs
+few-requires-8 : tie.Need-few-requires-8
+unfolding nameOf find rows text
+few-requires-8 c κs = search (fits 8)
 
-slice-aggregate-put-9 : tie.Need-slice-aggregate-put-9
-slice-aggregate-put-9 c = search needs
+slice-aggregate-few-9 : tie.Need-slice-aggregate-few-9
+slice-aggregate-few-9 c = search needs
 
-put-requires-9 : tie.Need-put-requires-9
-put-requires-9 c κs = search needs
+few-requires-9 : tie.Need-few-requires-9
+unfolding nameOf find rows text
+few-requires-9 c κs = search (fits 9)
 
-slice-aggregate-put-10 : tie.Need-slice-aggregate-put-10
-slice-aggregate-put-10 c = search needs
+slice-aggregate-few-10 : tie.Need-slice-aggregate-few-10
+slice-aggregate-few-10 c = search needs
 
-put-requires-10 : tie.Need-put-requires-10
-put-requires-10 c κs = search needs
+few-requires-10 : tie.Need-few-requires-10
+unfolding nameOf find rows text
+few-requires-10 c κs = search (fits 10)
 
-slice-aggregate-put-11 : tie.Need-slice-aggregate-put-11
-slice-aggregate-put-11 c = search needs
+slice-aggregate-few-11 : tie.Need-slice-aggregate-few-11
+slice-aggregate-few-11 c = search needs
 
-put-requires-11 : tie.Need-put-requires-11
-put-requires-11 c κs = search needs
+few-requires-11 : tie.Need-few-requires-11
+unfolding nameOf find rows text
+few-requires-11 c κs = search (fits 11)
 
-slice-aggregate-put-12 : tie.Need-slice-aggregate-put-12
-slice-aggregate-put-12 c = search needs
+slice-aggregate-few-12 : tie.Need-slice-aggregate-few-12
+slice-aggregate-few-12 c = search needs
 
-put-requires-12 : tie.Need-put-requires-12
-put-requires-12 c κs = search needs
+few-requires-12 : tie.Need-few-requires-12
+unfolding nameOf find rows text
+few-requires-12 c κs = search (fits 12)
 
-slice-aggregate-put-13 : tie.Need-slice-aggregate-put-13
-slice-aggregate-put-13 c = search needs
+slice-aggregate-few-13 : tie.Need-slice-aggregate-few-13
+slice-aggregate-few-13 c = search needs
 
-put-requires-13 : tie.Need-put-requires-13
-put-requires-13 c κs = search needs
+few-requires-13 : tie.Need-few-requires-13
+unfolding nameOf find rows text
+few-requires-13 c κs = search (fits 13)
 
-slice-aggregate-put-14 : tie.Need-slice-aggregate-put-14
-slice-aggregate-put-14 c = search needs
+slice-aggregate-few-14 : tie.Need-slice-aggregate-few-14
+slice-aggregate-few-14 c = search needs
 
-put-requires-14 : tie.Need-put-requires-14
-put-requires-14 c κs = search needs
+few-requires-14 : tie.Need-few-requires-14
+unfolding nameOf find rows text
+few-requires-14 c κs = search (fits 14)
 
-slice-aggregate-put-15 : tie.Need-slice-aggregate-put-15
-slice-aggregate-put-15 c = search needs
+slice-aggregate-few-15 : tie.Need-slice-aggregate-few-15
+slice-aggregate-few-15 c = search needs
 
-put-requires-15 : tie.Need-put-requires-15
-put-requires-15 c κs = search needs
+few-requires-15 : tie.Need-few-requires-15
+unfolding nameOf find rows text
+few-requires-15 c κs = search (fits 15)
 
-slice-aggregate-put-16 : tie.Need-slice-aggregate-put-16
-slice-aggregate-put-16 c = search needs
+slice-aggregate-few-16 : tie.Need-slice-aggregate-few-16
+slice-aggregate-few-16 c = search needs
 
-put-requires-16 : tie.Need-put-requires-16
-put-requires-16 c κs = search needs
+few-requires-16 : tie.Need-few-requires-16
+unfolding nameOf find rows text
+few-requires-16 c κs = search (fits 16)
 
-slice-aggregate-put-17 : tie.Need-slice-aggregate-put-17
-slice-aggregate-put-17 c = search needs
+slice-aggregate-few-17 : tie.Need-slice-aggregate-few-17
+slice-aggregate-few-17 c = search needs
 
-put-requires-17 : tie.Need-put-requires-17
-put-requires-17 c κs = search needs
+few-requires-17 : tie.Need-few-requires-17
+unfolding nameOf find rows text
+few-requires-17 c κs = search (fits 17)
 
-slice-aggregate-put-18 : tie.Need-slice-aggregate-put-18
-slice-aggregate-put-18 c = search needs
+slice-aggregate-few-18 : tie.Need-slice-aggregate-few-18
+slice-aggregate-few-18 c = search needs
 
-put-requires-18 : tie.Need-put-requires-18
-put-requires-18 c κs = search needs
+few-requires-18 : tie.Need-few-requires-18
+unfolding nameOf find rows text
+few-requires-18 c κs = search (fits 18)
 
-slice-aggregate-put-19 : tie.Need-slice-aggregate-put-19
-slice-aggregate-put-19 c = search needs
+slice-aggregate-few-19 : tie.Need-slice-aggregate-few-19
+slice-aggregate-few-19 c = search needs
 
-put-requires-19 : tie.Need-put-requires-19
-put-requires-19 c κs = search needs
+few-requires-19 : tie.Need-few-requires-19
+few-requires-19 c κs = search needs
 
 same-length : tie.Need-same-length
 same-length c = search needs
@@ -297,44 +319,44 @@ pub put-front-spec : {M : Type 1} → statement M
 put-front-spec =
     tie.close
     (tie.spec
-    slice-aggregate-put
-    put-requires
-    slice-aggregate-put-2
-    put-requires-2
-    slice-aggregate-put-3
-    put-requires-3
-    slice-aggregate-put-4
-    put-requires-4
-    slice-aggregate-put-5
-    put-requires-5
-    slice-aggregate-put-6
-    put-requires-6
-    slice-aggregate-put-7
-    put-requires-7
-    slice-aggregate-put-8
-    put-requires-8
-    slice-aggregate-put-9
-    put-requires-9
-    slice-aggregate-put-10
-    put-requires-10
-    slice-aggregate-put-11
-    put-requires-11
-    slice-aggregate-put-12
-    put-requires-12
-    slice-aggregate-put-13
-    put-requires-13
-    slice-aggregate-put-14
-    put-requires-14
-    slice-aggregate-put-15
-    put-requires-15
-    slice-aggregate-put-16
-    put-requires-16
-    slice-aggregate-put-17
-    put-requires-17
-    slice-aggregate-put-18
-    put-requires-18
-    slice-aggregate-put-19
-    put-requires-19
+    slice-aggregate-few
+    few-requires
+    slice-aggregate-few-2
+    few-requires-2
+    slice-aggregate-few-3
+    few-requires-3
+    slice-aggregate-few-4
+    few-requires-4
+    slice-aggregate-few-5
+    few-requires-5
+    slice-aggregate-few-6
+    few-requires-6
+    slice-aggregate-few-7
+    few-requires-7
+    slice-aggregate-few-8
+    few-requires-8
+    slice-aggregate-few-9
+    few-requires-9
+    slice-aggregate-few-10
+    few-requires-10
+    slice-aggregate-few-11
+    few-requires-11
+    slice-aggregate-few-12
+    few-requires-12
+    slice-aggregate-few-13
+    few-requires-13
+    slice-aggregate-few-14
+    few-requires-14
+    slice-aggregate-few-15
+    few-requires-15
+    slice-aggregate-few-16
+    few-requires-16
+    slice-aggregate-few-17
+    few-requires-17
+    slice-aggregate-few-18
+    few-requires-18
+    slice-aggregate-few-19
+    few-requires-19
     same-length
     returns
     same-length-2

@@ -14,7 +14,7 @@ use Rattle.emit.proofs.Numerals.{numeral-le}
 use Rattle.lines.specs.declared.Slot.{Slot}
 use Rattle.gateway.specs.declared.Sending.{Sending}
 use Rattle.judgement.specs.Entries.{entryAt}
-use Rattle.gateway.specs.Sending.{Tells}
+use Rattle.judgement.specs.Judges.{Tells}
 use Rattle.gateway.proofs.Lines.{sent-hops, sent-body, sent-broken, sent-whole, from-told, tag-le}
 use Rattle.gateway.proofs.output.value_len.Statement.{statement}
 use Rattle.gateway.proofs.output.value_len.Tie as tie
@@ -29,7 +29,7 @@ long-as a b e q = e ∙ ap length q
 as-long : (a b : List ℕ) → a ≡ b → length a ≡ length b
 as-long a b q = ap length q
 
-module _ (w : Sending) (m : List ℕ) (s : Slot) (t : Tells w (entryAt m s)) (two : s .number ≡ 2 → ⊥) (eight : s .number ≡ 8 → ⊥)
+module _ (w : Sending) (m : List ℕ) (s : Slot) (t : Tells (w .hops) (w .tag) (entryAt m s)) (two : s .number ≡ 2 → ⊥) (eight : s .number ≡ 8 → ⊥)
     {f : Bool} (ef : f ≡ (w .masked && eqb (s .number) 3)) (q : f ≡ true) (h : length m ≤ 8192) where
   from-le : 50 + w .tag .len ≤ 8242
   from-le = omega (arith, tag-le w m s t two eight ef q)
@@ -40,14 +40,14 @@ module _ (w : Sending) (m : List ℕ) (s : Slot) (t : Tells w (entryAt m s)) (tw
 lowered-requires : tie.Need-lowered-requires
 lowered-requires c κs = search needs
 
-numeral-len-requires : tie.Need-numeral-len-requires
-numeral-len-requires c κs = search needs
+five-digits-len-requires : tie.Need-five-digits-len-requires
+five-digits-len-requires c κs = search needs
 
 returns : tie.Need-returns
 returns c = search (long-as, sent-hops, short)
 
-numeral-len-requires-2 : tie.Need-numeral-len-requires-2
-numeral-len-requires-2 c κs = search needs
+five-digits-len-requires-2 : tie.Need-five-digits-len-requires-2
+five-digits-len-requires-2 c κs = search needs
 
 returns-2 : tie.Need-returns-2
 returns-2 c = search (long-as, sent-body, short)
@@ -78,9 +78,9 @@ value-len-spec =
     tie.close
     (tie.spec
     lowered-requires
-    numeral-len-requires
+    five-digits-len-requires
     returns
-    numeral-len-requires-2
+    five-digits-len-requires-2
     returns-2
     is-masked-from-requires
     add-result

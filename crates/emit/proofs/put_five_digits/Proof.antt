@@ -1,4 +1,4 @@
--- `emit::put_number` meets its contract. The invariant: the i digits that are left, put now, give what the numeral, put at once, would give.
+-- `emit::put_five_digits` meets its contract. The invariant: the i digits that are left, put now, give what the numeral, put at once, would give.
 use mathlib.Core.Path.{_≡_, sym, _∙_}
 use mathlib.Core.Bool.{Bool, true, false, not}
 use mathlib.Core.List.{List, [], _∷_, _++_}
@@ -12,8 +12,8 @@ use Rattle.sip.specs.Output.{numeral}
 use Rattle.emit.specs.Put.{putAt, Wrote}
 use Rattle.emit.proofs.Laws.{next-room, put-nil, put-last, room-yes, room-no}
 use Rattle.emit.proofs.Numerals.{last, lowest, lowest-length, numeral-lowest}
-use Rattle.emit.proofs.put_number.Statement.{statement}
-use Rattle.emit.proofs.put_number.Tie as tie
+use Rattle.emit.proofs.put_five_digits.Statement.{statement}
+use Rattle.emit.proofs.put_five_digits.Tie as tie
 
 module _ (d : List ℕ) (at n : ℕ) {size : ℕ} (l : size ≡ length (numeral n)) where
   module _ {t : Bool} (e : t ≡ leb (at + size) (length d)) where
@@ -54,8 +54,8 @@ Inv-loop out₀ at n size left₀ i₀ out left i = (i ≤ size) × (at + size �
 abbrev μ-loop : tie.MeasureT-loop
 μ-loop out₀ at n size left₀ i₀ out left i = i
 
-numeral-len-requires : tie.Need-numeral-len-requires Inv-loop μ-loop
-numeral-len-requires c κs = search needs
+five-digits-len-requires : tie.Need-five-digits-len-requires Inv-loop μ-loop
+five-digits-len-requires c κs = search needs
 
 has-room-requires : tie.Need-has-room-requires Inv-loop μ-loop
 has-room-requires c κs = search needs
@@ -93,13 +93,13 @@ same-length c = search needs
 returns-2 : tie.Need-returns-2 Inv-loop μ-loop
 returns-2 c = search finish
 
-pub put-number-spec : {M : Type 1} → statement M
-put-number-spec =
+pub put-five-digits-spec : {M : Type 1} → statement M
+put-five-digits-spec =
     tie.close
     (tie.spec
     Inv-loop
     μ-loop
-    numeral-len-requires
+    five-digits-len-requires
     has-room-requires
     returns
     loop-holds

@@ -1,7 +1,7 @@
--- `emit::numeral_len` meets its contract: a law for each number of digits.
+-- `emit::five_digits_len` meets its contract: a law for each number of digits.
 use Rattle.emit.proofs.Numerals.{len1, len2, len3, len4, len5}
-use Rattle.emit.proofs.numeral_len.Statement.{statement}
-use Rattle.emit.proofs.numeral_len.Tie as tie
+use Rattle.emit.proofs.five_digits_len.Statement.{statement}
+use Rattle.emit.proofs.five_digits_len.Tie as tie
 
 returns : tie.Need-returns
 returns c = search len1
@@ -18,5 +18,5 @@ returns-4 c = search len4
 returns-5 : tie.Need-returns-5
 returns-5 c = search len5
 
-pub numeral-len-spec : {M : Type 1} → statement M
-numeral-len-spec = tie.close (tie.spec returns returns-2 returns-3 returns-4 returns-5)
+pub five-digits-len-spec : {M : Type 1} → statement M
+five-digits-len-spec = tie.close (tie.spec returns returns-2 returns-3 returns-4 returns-5)

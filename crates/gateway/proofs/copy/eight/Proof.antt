@@ -1,31 +1,27 @@
--- `emit::eight` meets its contract, one byte after the other.
-use mathlib.Core.Path.{_≡_, refl, sym, ap}
+-- One byte after the other (Copies).
+use mathlib.Core.Path.{_≡_, refl, sym}
 use mathlib.Core.List.{List, [], _∷_}
-use Prim.Native.Nat.{ℕ, suc, _+_, _≤_, _<_}
+use Prim.Native.Nat.{ℕ, _+_, _≤_}
 use native.Mathlib.Omega.{arith}
 use lib.ListN.{length, take, drop, getD}
 use borrow.Author.Needs.{needs}
-use Rattle.octets.proofs.Places.{drop1}
-use Rattle.emit.proofs.eight.Statement.{statement}
-use Rattle.emit.proofs.eight.Tie as tie
+use Rattle.gateway.proofs.Copies.{byte-more}
+use Rattle.gateway.proofs.copy.eight.Statement.{statement}
+use Rattle.gateway.proofs.copy.eight.Tie as tie
 
-module _ (s : List ℕ) where
-  more : (n k j : ℕ) {x : List ℕ} → k < length s → j ≡ k + 1 → take n (drop j s) ≡ x → take (suc n) (drop k s) ≡ getD s k 0 ∷ x
-  more n k j h z e = rw (drop1 s k h, ← z) (ap (λ (l : List ℕ). getD s k 0 ∷ l) e)
-
-  taken : (k : ℕ) → k + 8 ≤ length s
-      → getD s k 0 ∷ getD s (k + 1) 0 ∷ getD s (k + 2) 0 ∷ getD s (k + 3) 0 ∷ getD s (k + 4) 0 ∷ getD s (k + 5) 0 ∷ getD s (k + 6) 0 ∷ getD s (k + 7) 0 ∷ []
-      ≡ take 8 (drop k s)
-  taken k h =
-      sym
-      (more 7 k (k + 1) (omega arith) refl
-      (more 6 (k + 1) (k + 2) (omega arith) (omega arith)
-      (more 5 (k + 2) (k + 3) (omega arith) (omega arith)
-      (more 4 (k + 3) (k + 4) (omega arith) (omega arith)
-      (more 3 (k + 4) (k + 5) (omega arith) (omega arith)
-      (more 2 (k + 5) (k + 6) (omega arith) (omega arith)
-      (more 1 (k + 6) (k + 7) (omega arith) (omega arith)
-      (more 0 (k + 7) (k + 8) (omega arith) (omega arith) refl))))))))
+taken : (s : List ℕ) (k : ℕ) → k + 8 ≤ length s
+    → getD s k 0 ∷ getD s (k + 1) 0 ∷ getD s (k + 2) 0 ∷ getD s (k + 3) 0 ∷ getD s (k + 4) 0 ∷ getD s (k + 5) 0 ∷ getD s (k + 6) 0 ∷ getD s (k + 7) 0 ∷ []
+    ≡ take 8 (drop k s)
+taken s k h =
+    sym
+    (byte-more s 7 k (k + 1) (omega arith) refl
+    (byte-more s 6 (k + 1) (k + 2) (omega arith) (omega arith)
+    (byte-more s 5 (k + 2) (k + 3) (omega arith) (omega arith)
+    (byte-more s 4 (k + 3) (k + 4) (omega arith) (omega arith)
+    (byte-more s 3 (k + 4) (k + 5) (omega arith) (omega arith)
+    (byte-more s 2 (k + 5) (k + 6) (omega arith) (omega arith)
+    (byte-more s 1 (k + 6) (k + 7) (omega arith) (omega arith)
+    (byte-more s 0 (k + 7) (k + 8) (omega arith) (omega arith) refl))))))))
 
 shared-slice-read-t4 : tie.Need-shared-slice-read-t4
 shared-slice-read-t4 c = search needs
