@@ -68,12 +68,13 @@ noted t n f =
 
 -- the same in three steps: what is noted of every field, what each Require says, and what the first of the others says
 
-unfoldable pub counted : Tally → ℕ → Bool → Tally
-counted t n good =
+-- the tally with these for the set seen, the first that came again and the first malformed one
+abbrev pub recounted : Tally → ℕ → ℕ → ℕ → Tally
+recounted t seen again malformed =
     record {
-      seen = bitOr (t .seen) (2 ^ n);
-      again = orElse (t .again) (cond (once n && has (t .seen) n) n 0);
-      malformed = orElse (t .malformed) (cond good 0 n);
+      seen = seen;
+      again = again;
+      malformed = malformed;
       hops = t .hops;
       tagged = t .tagged;
       withheld = t .withheld;
@@ -83,6 +84,10 @@ counted t n good =
       tag = t .tag;
       number = t .number;
     }
+
+unfoldable pub counted : Tally → ℕ → Bool → Tally
+counted t n good =
+    recounted t (bitOr (t .seen) (2 ^ n)) (orElse (t .again) (cond (once n && has (t .seen) n) n 0)) (orElse (t .malformed) (cond good 0 n))
 
 unfoldable pub required : Tally → Finding → Tally
 required t f =

@@ -16,7 +16,7 @@ use Rattle.sip.specs.Profile.{rows, lookup, numberOf, find, nameOf}
 use Rattle.sip.proofs.Names.{NameShaped, listed-name}
 use Rattle.lines.specs.Places.{namedAt}
 use Rattle.lines.specs.Sizes.{colonSize}
-use Rattle.lines.specs.Passes.{Told}
+use Rattle.lines.specs.Passes.{FoundName}
 use Rattle.lines.proofs.Starts.{within-true}
 use Rattle.lines.proofs.Spellings.{bounded-number}
 use Rattle.lines.proofs.Quads.{Stands}
@@ -47,9 +47,9 @@ module _ (s : List ℕ) (at : ℕ) (name : List ℕ) (e : Stands s at (length na
       rw (r, lt-ltb 0 (length name) (h .long), colon-is, name-is)
 
   -- its number is 0 where it is not listed
-  name-told : {n : ℕ} → n ≡ numberOf name → {v : ℕ} → v ≡ at + (length name + 1) → v ≤ length s → Told s at (record { number = n; value = v })
+  name-told : {n : ℕ} → n ≡ numberOf name → {v : ℕ} → v ≡ at + (length name + 1) → v ≤ length s → FoundName s at (record { number = n; value = v })
   name-told {n} hn {v} hv l =
-      record { told-named = go (eqb n 0) refl; told-number = bounded-number name hn .1; told-value = l }
+      record { found-named = go (eqb n 0) refl; found-number = bounded-number name hn .1; found-value = l }
     where
       go : (t : Bool) → eqb n 0 ≡ t → namedAt s at ≡ cond t (namedAt s at) (record { number = n; value = v })
       go true q = refl
@@ -83,7 +83,7 @@ one-of (suc k) n e h l = let b = and-eq-true-iff (told (suc k)) (every k) .0 e i
 
 -- the long name of number n stands at a place with its colon
 pub spelt : {s : List ℕ} {at : ℕ} (n : ℕ) → within 1 18 n ≡ true → Stands s at (length (nameOf n) + 1) (nameOf n ++ 58 ∷ [])
-    → {v : ℕ} → v ≡ at + (length (nameOf n) + 1) → at + 20 ≤ length s → Told s at (record { number = n; value = v })
+    → {v : ℕ} → v ≡ at + (length (nameOf n) + 1) → at + 20 ≤ length s → FoundName s at (record { number = n; value = v })
 unfolding told
 spelt {s} {at} n h e {v} hv l =
     let i = within-true 1 18 n h in
@@ -94,7 +94,7 @@ spelt {s} {at} n h e {v} hv l =
 
 -- a byte before a colon
 pub letter-told : (s : List ℕ) (at : ℕ) → 2 ≤ length s - at → getD s (at + 1) 0 ≡ 58 → {n : ℕ} → n ≡ numberOf (getD s at 0 ∷ []) → {v : ℕ} → v ≡ at + 2
-    → Told s at (record { number = n; value = v })
+    → FoundName s at (record { number = n; value = v })
 letter-told s at h q hn hv =
     let e : Stands s at 2 (getD s at 0 ∷ 58 ∷ []) = record { stands = rw (drop2 s at (omega arith), q) } in
     name-told s at (getD s at 0 ∷ []) e hn hv (omega arith)

@@ -21,10 +21,10 @@ use Rattle.lines.specs.declared.slots.Counted.{Counted}
 -- ---- over the fields
 
 -- a look for a name at a place tells the name there, or nothing, with number 0
-pub record Told (s : List ℕ) (at : ℕ) (r : Named) : Type 0 where
-  pub told-named : namedAt s at ≡ cond (eqb (r .number) 0) (namedAt s at) r
-  pub told-number : r .number ≤ 18
-  pub told-value : r .value ≤ length s
+pub record FoundName (s : List ℕ) (at : ℕ) (r : Named) : Type 0 where
+  pub found-named : namedAt s at ≡ cond (eqb (r .number) 0) (namedAt s at) r
+  pub found-number : r .number ≤ 18
+  pub found-value : r .value ≤ length s
 
 -- the slot of a field of that number whose value v stands at place at of the message
 unfoldable pub slotFor : ℕ → ℕ → List ℕ → Slot

@@ -4,7 +4,7 @@ use crate::names;
 use crate::words;
 ghost use Prim.Native.Nat.{_+_, _≤_};
 ghost use lib.ListN.{length};
-ghost use Rattle.lines.specs.Passes.{Told};
+ghost use Rattle.lines.specs.Passes.{FoundName};
 
 // Another name, or one that is written otherwise.
 const OTHER: Named = Named {
@@ -14,7 +14,7 @@ const OTHER: Named = Named {
 
 fn via(s: &[u8], at: usize) -> Named
     requires { ⌜ at + 20 ≤ length (now s) ⌝ }
-    ensures { λ r. ⌜ Told (now (s .entry)) at r ⌝ }
+    ensures { λ r. ⌜ FoundName (now (s .entry)) at r ⌝ }
 {
     if words::is(s, at, b"Via:") {
         let value = at + 4;
@@ -25,7 +25,7 @@ fn via(s: &[u8], at: usize) -> Named
 
 fn max_forwards(s: &[u8], at: usize) -> Named
     requires { ⌜ at + 20 ≤ length (now s) ⌝ }
-    ensures { λ r. ⌜ Told (now (s .entry)) at r ⌝ }
+    ensures { λ r. ⌜ FoundName (now (s .entry)) at r ⌝ }
 {
     if !words::both(s, at, b"Max-", 4, b"Forw") {
         return OTHER;
@@ -40,7 +40,7 @@ fn max_forwards(s: &[u8], at: usize) -> Named
 
 fn from(s: &[u8], at: usize) -> Named
     requires { ⌜ at + 20 ≤ length (now s) ⌝ }
-    ensures { λ r. ⌜ Told (now (s .entry)) at r ⌝ }
+    ensures { λ r. ⌜ FoundName (now (s .entry)) at r ⌝ }
 {
     if words::both(s, at, b"From", 1, b"rom:") {
         let value = at + 5;
@@ -52,7 +52,7 @@ fn from(s: &[u8], at: usize) -> Named
 // A name of two bytes: the space after its colon makes a word of it.
 fn to(s: &[u8], at: usize) -> Named
     requires { ⌜ at + 20 ≤ length (now s) ⌝ }
-    ensures { λ r. ⌜ Told (now (s .entry)) at r ⌝ }
+    ensures { λ r. ⌜ FoundName (now (s .entry)) at r ⌝ }
 {
     if words::is(s, at, b"To: ") {
         let value = at + 3;
@@ -63,7 +63,7 @@ fn to(s: &[u8], at: usize) -> Named
 
 fn supported(s: &[u8], at: usize) -> Named
     requires { ⌜ at + 20 ≤ length (now s) ⌝ }
-    ensures { λ r. ⌜ Told (now (s .entry)) at r ⌝ }
+    ensures { λ r. ⌜ FoundName (now (s .entry)) at r ⌝ }
 {
     if !words::both(s, at, b"Supp", 2, b"ppor") {
         return OTHER;
@@ -78,7 +78,7 @@ fn supported(s: &[u8], at: usize) -> Named
 
 fn with_a(s: &[u8], at: usize) -> Named
     requires { ⌜ at + 20 ≤ length (now s) ⌝ }
-    ensures { λ r. ⌜ Told (now (s .entry)) at r ⌝ }
+    ensures { λ r. ⌜ FoundName (now (s .entry)) at r ⌝ }
 {
     if words::both(s, at, b"Allo", 2, b"low:") {
         let value = at + 6;
@@ -93,7 +93,7 @@ fn with_a(s: &[u8], at: usize) -> Named
 
 fn content(s: &[u8], at: usize) -> Named
     requires { ⌜ at + 20 ≤ length (now s) ⌝ }
-    ensures { λ r. ⌜ Told (now (s .entry)) at r ⌝ }
+    ensures { λ r. ⌜ FoundName (now (s .entry)) at r ⌝ }
 {
     if !words::both(s, at, b"Cont", 4, b"ent-") {
         return OTHER;
@@ -112,7 +112,7 @@ fn content(s: &[u8], at: usize) -> Named
 
 fn with_c(s: &[u8], at: usize) -> Named
     requires { ⌜ at + 20 ≤ length (now s) ⌝ }
-    ensures { λ r. ⌜ Told (now (s .entry)) at r ⌝ }
+    ensures { λ r. ⌜ FoundName (now (s .entry)) at r ⌝ }
 {
     if words::both(s, at, b"CSeq", 1, b"Seq:") {
         let value = at + 5;
@@ -131,7 +131,7 @@ fn with_c(s: &[u8], at: usize) -> Named
 
 fn record_route(s: &[u8], at: usize) -> Named
     requires { ⌜ at + 20 ≤ length (now s) ⌝ }
-    ensures { λ r. ⌜ Told (now (s .entry)) at r ⌝ }
+    ensures { λ r. ⌜ FoundName (now (s .entry)) at r ⌝ }
 {
     if !words::both(s, at, b"Reco", 4, b"rd-R") {
         return OTHER;
@@ -146,7 +146,7 @@ fn record_route(s: &[u8], at: usize) -> Named
 
 fn with_r(s: &[u8], at: usize) -> Named
     requires { ⌜ at + 20 ≤ length (now s) ⌝ }
-    ensures { λ r. ⌜ Told (now (s .entry)) at r ⌝ }
+    ensures { λ r. ⌜ FoundName (now (s .entry)) at r ⌝ }
 {
     if words::both(s, at, b"Rout", 2, b"ute:") {
         let value = at + 6;
@@ -165,7 +165,7 @@ fn with_r(s: &[u8], at: usize) -> Named
 
 fn asserted_identity(s: &[u8], at: usize) -> Named
     requires { ⌜ at + 20 ≤ length (now s) ⌝ }
-    ensures { λ r. ⌜ Told (now (s .entry)) at r ⌝ }
+    ensures { λ r. ⌜ FoundName (now (s .entry)) at r ⌝ }
 {
     if !words::both(s, at, b"P-As", 4, b"sert") {
         return OTHER;
@@ -184,7 +184,7 @@ fn asserted_identity(s: &[u8], at: usize) -> Named
 
 fn with_p(s: &[u8], at: usize) -> Named
     requires { ⌜ at + 20 ≤ length (now s) ⌝ }
-    ensures { λ r. ⌜ Told (now (s .entry)) at r ⌝ }
+    ensures { λ r. ⌜ FoundName (now (s .entry)) at r ⌝ }
 {
     if words::both(s, at, b"Priv", 4, b"acy:") {
         let value = at + 8;
@@ -196,7 +196,7 @@ fn with_p(s: &[u8], at: usize) -> Named
 // A long name, by its first letter.
 fn long(s: &[u8], at: usize) -> Named
     requires { ⌜ at + 20 ≤ length (now s) ⌝ }
-    ensures { λ r. ⌜ Told (now (s .entry)) at r ⌝ }
+    ensures { λ r. ⌜ FoundName (now (s .entry)) at r ⌝ }
 {
     let first = s[at];
     match first {
@@ -216,7 +216,7 @@ fn long(s: &[u8], at: usize) -> Named
 // The name at a place. The longest has 20 bytes with its colon, so that most fields have room for the look.
 pub(crate) fn read(s: &[u8], at: usize) -> Named
     requires { ⌜ at ≤ length (now s) ⌝ }
-    ensures { λ r. ⌜ Told (now (s .entry)) at r ⌝ }
+    ensures { λ r. ⌜ FoundName (now (s .entry)) at r ⌝ }
 {
     let left = s.len() - at;
     if left < 2 {

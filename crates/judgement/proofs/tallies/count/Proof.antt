@@ -7,26 +7,13 @@ use lib.Bits.{bitOr}
 use Rattle.sip.specs.Profile.{once}
 use Rattle.judgement.specs.declared.Tally.{Tally}
 use Rattle.judgement.specs.Sets.{has}
-use Rattle.judgement.specs.Tallies.{orElse, counted}
+use Rattle.judgement.specs.Tallies.{orElse, recounted, counted}
 use Rattle.judgement.proofs.tallies.count.Statement.{statement}
 use Rattle.judgement.proofs.tallies.count.Tie as tie
 
 count-is : (t : Tally) (n : ℕ) (good : Bool) {s a m : ℕ} → s ≡ bitOr (t .seen) (2 ^ n)
     → a ≡ orElse (t .again) (cond (once n && has (t .seen) n) n 0) → m ≡ orElse (t .malformed) (cond good 0 n)
-    → record {
-      seen = s;
-      again = a;
-      malformed = m;
-      hops = t .hops;
-      tagged = t .tagged;
-      withheld = t .withheld;
-      length = t .length;
-      tags = t .tags;
-      lacking = t .lacking;
-      tag = t .tag;
-      number = t .number;
-    }
-    ≡ counted t n good
+    → recounted t s a m ≡ counted t n good
 unfolding counted
 count-is t n good es ea em = rw (es, ea, em)
 

@@ -7,27 +7,14 @@ use lib.Bits.{bitOr}
 use Rattle.sip.specs.Profile.{once}
 use Rattle.judgement.specs.declared.Tally.{Tally}
 use Rattle.judgement.specs.Sets.{has}
-use Rattle.judgement.specs.Tallies.{orElse, counted}
+use Rattle.judgement.specs.Tallies.{orElse, recounted, counted}
 use Rattle.judgement.proofs.Totals.{else-none}
 use Rattle.judgement.proofs.tallies.count_first.Statement.{statement}
 use Rattle.judgement.proofs.tallies.count_first.Tie as tie
 
 count-is : (t : Tally) (n : ℕ) (good : Bool) → has (t .seen) n ≡ false → {s m : ℕ} → s ≡ bitOr (t .seen) (2 ^ n)
     → m ≡ orElse (t .malformed) (cond good 0 n)
-    → record {
-      seen = s;
-      again = t .again;
-      malformed = m;
-      hops = t .hops;
-      tagged = t .tagged;
-      withheld = t .withheld;
-      length = t .length;
-      tags = t .tags;
-      lacking = t .lacking;
-      tag = t .tag;
-      number = t .number;
-    }
-    ≡ counted t n good
+    → recounted t s (t .again) m ≡ counted t n good
 unfolding counted
 count-is t n good h es em = rw (es, em, h, and-false (once n), else-none (t .again))
 
