@@ -47,7 +47,7 @@ unfoldable pub pick : (ℕ → Bool) → List ℕ → List ℕ
 pick p [] = []
 pick p (n ∷ ns) = let others = pick p ns in cond (p n) (n ∷ others) others
 
--- the mandatory numbers that are not in the set
+-- the mandatory numbers that are not in the set: `missingOf` of Refusals.antt asks the fields themselves, the code has only the mask
 abbrev pub lackOf : Column → Bool → ℕ → List ℕ
 lackOf c empty seen = pick (λ (n : ℕ). mandatory c empty n && not (has seen n)) numbers
 
