@@ -16,31 +16,40 @@ extern "C" {
 #endif
 
 /*
- * No function takes more than so many bytes of stack, its return address included. The most that was measured is 10,952, of
+ * No function takes more than so many bytes of stack, its return address included. The most that was measured is 11,912, of
  * mishkolar_screen; it is measured by tests/stack/run, and not proved.
  */
 #define MISHKOLAR_STACK 12000
 
 /*
- * Screens one SIP request that goes to a peer on a side: 0 trusted, 1 untrusted.
+ * Screens one SIP message, a request or a response, that goes to a peer on a side: 0 trusted, 1 untrusted. Its start line says which it is.
  *
  * Accepted: *reason is 0, the outgoing message stands at the front of out, and its length is returned. The other bytes of out stay.
- * Refused: *reason is 1 to 16, 0 is returned, and out is untouched. Then
- *   *reply    is the SIP status to answer with; 0: send nothing (always for ACK);
+ * On side 1 an INVITE with `Privacy: id` goes out without P-Asserted-Identity and with an anonymous From. A response has the same answer
+ * on both sides.
+ * Refused: *reason is 1 to 17, 0 is returned, and out is untouched. Then
+ *   *reply    is the SIP status to answer with; 0: send nothing (always for ACK and for a response);
  *   *detail   is at 9 the number of the field that came again, at 10 of the malformed one, at 12 the lowest missing number, at 14 the
  *             place of the required tag that we lack, at 16 the length needed; else 0;
  *   *missing  is at 12 how many mandatory fields are missing; else 0.
- * Reasons: 1 side, 2 over 8,192 bytes, 3 start line, 4 a field's shape or no empty line, 5 over 96 fields, 6 method, 7 scheme of the
- * Request-URI, 8 Request-URI, 9 a field came again, 10 a malformed value, 11 Content-Length exceeds the bytes there, 12 mandatory
- * field missing, 13 Max-Forwards is 0, 14 a required tag we lack, 15 called number, 16 output longer than out.
+ * Reasons: 1 side, 2 over 8,192 bytes, 3 start line, 4 a field's shape or no empty line, 5 over 96 fields, 6 method (of a response: its
+ * first CSeq is absent, malformed, or names none of INVITE, BYE, CANCEL and OPTIONS), 7 scheme of the Request-URI, 8 Request-URI, 9 a
+ * field came again, 10 a malformed value, 11 Content-Length exceeds the bytes there, 12 mandatory field missing, 13 Max-Forwards is 0,
+ * 14 a required tag we lack, 15 called number, 16 output longer than out, 17 status outside 100 to 699. The first that applies is told:
+ * of a request 1 to 16 in that order, of a response 1 to 5, 17, 6, 9 to 12, 16.
+ * Fields: 1 Via, 2 Max-Forwards, 3 From, 4 To, 5 Call-ID, 6 CSeq, 7 Contact, 8 Content-Length, 9 Content-Type, 10 Route, 11 Reason,
+ * 12 Allow, 13 Supported, 14 Require, 15 P-Asserted-Identity, 16 Privacy, 17 Accept, 18 Record-Route.
+ * Which fields are mandatory, and which are ignored and do not go out, is said by a column (crates/sip/specs/Profile.antt). Requests have
+ * one for each of INVITE, ACK, BYE, CANCEL and OPTIONS, and one more for an INVITE whose To has a tag. Responses have one for INVITE with
+ * a status from 200 to 299, one for CANCEL, and one for all others.
  * room is enough for any message of len bytes where it is at least len + 1023.
  */
 size_t mishkolar_screen(const uint8_t *message, size_t len, uint64_t side, uint8_t *out, size_t room,
                         uint64_t *reason, uint64_t *reply, uint64_t *detail, uint64_t *missing);
 
 /*
- * How often the field of that number (1 Via to 18 Record-Route) stands in the message, in long or compact form and any letter case;
- * 0 where the message is not well shaped or the number is not listed.
+ * How often the field of that number stands in the message, in long or compact form and any letter case; 0 where the message has a
+ * reason of 2 to 5 or the number is not listed.
  */
 size_t mishkolar_count(const uint8_t *message, size_t len, uint64_t field);
 
@@ -53,7 +62,8 @@ size_t mishkolar_reading(const uint8_t *message, size_t len, uint64_t field, uin
 /*
  * The calling number, with its plus sign: the length is returned. *from_trunk is 1 where it is the trunk number, else it stands in the
  * message from *start on. It ends within the one or the other. It is empty, and all three are 0, where the trunk number is no plus sign
- * and 7 to 15 digits, the first not 0, or where the message has a reason of 2 to 15 on side 0.
+ * and 7 to 15 digits, the first not 0, or where the message has a reason of 2 to 15 or 17 on side 0. A response without such a
+ * reason has the trunk number.
  */
 size_t mishkolar_calling_number(const uint8_t *message, size_t len, const uint8_t *trunk, size_t trunk_len,
                                 size_t *start, uint64_t *from_trunk);

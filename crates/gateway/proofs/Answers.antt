@@ -4,7 +4,7 @@ use mathlib.Core.List.{List}
 use Prim.Native.Nat.{ℕ, _≤_, _<_}
 use lib.ListN.{length}
 use borrow.Author.Tests.{le-leb, lt-leb}
-use Rattle.sip.specs.Refusals.{Answer, refusal, replied, Request, judgement, refused, accepted}
+use Rattle.sip.specs.Refusals.{Answer, refusal, replied, Passed, judgement, refused, accepted}
 use Rattle.sip.specs.Output.{output}
 use Rattle.sip.specs.Screen.{refusing, sending, masks, delivered, screened}
 
@@ -18,7 +18,7 @@ module _ (m : List ℕ) (side : ℕ) (d : List ℕ) where
     unfolding screened
     answer-refused a e = rw (le-leb side 1 h, e)
 
-    module _ (q : Request) (e : judgement m ≡ accepted q) where
+    module _ (q : Passed) (e : judgement m ≡ accepted q) where
       pub answer-full : length d < length (output (masks side q) q)
           → screened m side d ≡ refusing (replied (q .line) (refusal 16 500 (length (output (masks side q) q)) 0)) d
       unfolding screened delivered

@@ -11,9 +11,8 @@ use borrow.Author.Tests.{eq-eqb, ne-eqb, not-true, not-false}
 use Rattle.sip.specs.declared.CallingAt.{CallingAt}
 use Rattle.sip.specs.declared.Span.{Span}
 use Rattle.sip.specs.Lines.{folded, unfoldedAt}
-use Rattle.sip.specs.Profile.{columnOf}
 use Rattle.sip.specs.Values.{isGlobal, isIdentity}
-use Rattle.sip.specs.Refusals.{Answer, valueOf, refused, judgement}
+use Rattle.sip.specs.Refusals.{Answer, valueOf, messageColumn, refused, judgement}
 use Rattle.sip.specs.Readings.{noSpan, part, noCalling, callerAt, callingAt, callingPart, callingNumber, place, readingAt, reading}
 use Rattle.sip.proofs.Firsts.{kept-reading}
 use Rattle.sip.proofs.Within.{reading-within}
@@ -92,7 +91,7 @@ module _ (n : ℕ) (ns : List ℕ) (i : ℕ) (none-yet : spansIn n (firstSlots i
 
 module _ (m t : List ℕ) (g : isGlobal t ≡ true) {slots : List ℕ} {j : Judged} (p : Passes m slots j) where
   abbrev value : Option (List ℕ)
-  value = valueOf 15 (p .request .fields)
+  value = valueOf 15 (p .message .fields)
 
   pub trunk-said : j .number .len ≡ 0 → {x : CallingAt} → x ≡ record { «from_trunk» = true; start = 0; len = length t } → Calling m t x
   unfolding callingAt
@@ -125,8 +124,9 @@ module _ (m t : List ℕ) (g : isGlobal t ≡ true) {slots : List ℕ} {j : Judg
 
     read-from : v ≡ folded 0 (reading m 15 1)
     read-from =
-        let l = p .request .line in
-        kept-reading m l (p .header) (p .is-read) 15 (omega arith) (columnOf (l .method) false) v (ap (valueOf 15) (sym (p .fields-kept)) ∙ there)
+        let l = p .message .line in
+        let c = messageColumn l (p .header .fields) in
+        kept-reading m l (p .header) (p .is-read) 15 (omega arith) c v (ap (valueOf 15) (sym (p .fields-kept)) ∙ there)
 
     caller-there : {q : Span} → q ≡ readingAt m 15 1
         → Calling m t (record { «from_trunk» = false; start = q .start + unfoldedAt (j .number .start) 0 (part q m); len = j .number .len })

@@ -1,6 +1,7 @@
 pub mod Copies
 pub mod LongNames
 pub mod Lines
+pub mod Starts
 pub mod Answers
 pub mod Top
 pub mod Callers

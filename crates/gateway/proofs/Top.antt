@@ -1,18 +1,16 @@
 -- From what judging found to the whole answer: the text that is written is the outgoing message.
 use mathlib.Core.Path.{_≡_, refl, sym, ap, _∙_}
 use mathlib.Core.Bool.{Bool, true, false, cond, _&&_}
-use mathlib.Core.List.{List, _∷_, _++_, append-assoc}
+use mathlib.Core.List.{List, _++_}
 use Prim.Native.Nat.{ℕ, _+_, _≤_, _<_}
 use native.Mathlib.Omega.{arith}
 use lib.Dec.{eqb, leb}
 use lib.ListN.{length, take, drop, length-append, length-drop}
 use lib.Seq.{length-take-le}
 use borrow.Author.Tests.{le-leb, lt-leb, leb-true, leb-false}
-use Rattle.octets.specs.Classes.{text}
-use Rattle.octets.specs.Scans.{same}
 use Rattle.sip.specs.Lines.{crlf}
-use Rattle.sip.specs.Refusals.{refusal, replied, Entry, withheld}
-use Rattle.sip.specs.Output.{startLine, fieldLines, output}
+use Rattle.sip.specs.Refusals.{refusal, replied, silent, Entry, withheld}
+use Rattle.sip.specs.Output.{fieldLines, output}
 use Rattle.sip.specs.Screen.{Screened, refusing, sending, masks, screened}
 use Rattle.sip.proofs.Growth.{growth}
 use Rattle.emit.specs.Put.{Wrote}
@@ -22,22 +20,19 @@ use Rattle.judgement.specs.declared.Refusal.{Refusal}
 use Rattle.judgement.specs.Entries.{entriesFrom}
 use Rattle.judgement.specs.Judges.{Told, Passes, Judges}
 use Rattle.judgement.specs.Sets.{has}
-use Rattle.judgement.proofs.Parts.{parts}
 use Rattle.gateway.specs.declared.Sending.{Sending}
 use Rattle.gateway.specs.declared.Verdict.{Verdict}
 use Rattle.gateway.specs.declared.Verdict.the-variants.{Accepted, Refused}
 use Rattle.gateway.specs.Sending.{sendingOf}
-use Rattle.gateway.specs.Sent.{Goes, sentMessage}
+use Rattle.gateway.specs.Sent.{Goes, sentStart, sentMessage}
 use Rattle.gateway.specs.Verdicts.{numbersOf}
 use Rattle.gateway.proofs.Lines.{none-hidden, lines-kept, told-kept}
+use Rattle.gateway.proofs.Starts.{start-length, version-within, start-sent}
 use Rattle.gateway.proofs.Answers.{other-side, answer-refused, answer-full, answer-sent}
 
 -- ---- what the writer is told
 
 module _ (m slots : List ℕ) {j : Judged} (p : Passes m slots j) where
-  abbrev before : ℕ
-  before = j .method + 1 + j .uri
-
   abbrev es : List Entry
   es = entriesFrom (j .kept) m slots (j .count) 0
 
@@ -54,49 +49,47 @@ module _ (m slots : List ℕ) {j : Judged} (p : Passes m slots j) where
 
   -- ---- the outgoing message
 
-  line-before : take before m ≡ p .request .line .method ++ 32 ∷ p .request .line .uri
-  line-before = rw (p .method-long, p .uri-long) (parts m (p .request .line) (p .header) (p .is-read) .read-as .line-part)
+  pub version-in : j .before + 7 ≤ j .line
+  version-in = rw (p .before-is, p .line-is) (version-within (p .message .line))
 
   body-size : length (take (j .body) (drop (j .rest) m)) ≡ j .body
   body-size = length-take-le (j .body) (drop (j .rest) m) (rw (length-drop (j .rest) m) (p .body-there))
 
-  body-long : length (p .request .body) ≡ j .body
+  body-long : length (p .message .body) ≡ j .body
   body-long = rw (p .body-is) body-size
 
-  sent-output : (masked : Bool) → sentMessage m slots j masked ≡ output masked (p .request)
-  unfolding sentMessage output startLine
+  sent-output : (masked : Bool) → sentMessage m slots j masked ≡ output masked (p .message)
+  unfolding sentMessage output
   sent-output masked =
-      let l = p .request .line in
-      let version : List ℕ = text " SIP/2.0\r\n" in
-      let start : take before m ++ version ≡ l .method ++ 32 ∷ (l .uri ++ version) = rw (line-before, append-assoc (l .method) (32 ∷ l .uri) version) in
-      let lines : List ℕ = fieldLines masked (j .body) es ++ (crlf ++ take (j .body) (drop (j .rest) m)) in
-      sym (append-assoc (take before m) version lines) ∙ rw (start, ← p .fields-held, ← p .body-is, body-long)
+      let start = start-sent m (p .message .line) (p .header) (p .is-read) in
+      rw (p .before-is, p .line-is, start, ← p .fields-held, ← p .body-is, body-long)
 
   sent-parts : (masked : Bool)
       → length (sentMessage m slots j masked)
-      ≡ length (take before m) + (10 + (length (fieldLines masked (j .body) es) + (2 + length (take (j .body) (drop (j .rest) m)))))
-  unfolding sentMessage text
+      ≡ j .line + (length (fieldLines masked (j .body) es) + (2 + length (take (j .body) (drop (j .rest) m))))
+  unfolding sentMessage
   sent-parts masked =
       let lines : List ℕ = fieldLines masked (j .body) es in
       let last : List ℕ = take (j .body) (drop (j .rest) m) in
+      let start : length (sentStart m (j .before) (j .line)) ≡ j .line = start-length m (j .before) (j .line) version-in (p .line-within) in
       omega
-      (arith, length-append (take before m) (text " SIP/2.0\r\n" ++ (lines ++ (crlf ++ last))), length-append lines (crlf ++ last))
+      (arith, start, length-append (sentStart m (j .before) (j .line)) (lines ++ (crlf ++ last)), length-append lines (crlf ++ last))
 
   module _ (masked : Bool) {w : Sending} (ew : w ≡ sendingOf masked j) {sent : ℕ} (g : Goes masked (j .kept) sent) {count : ℕ} (ec : count ≡ j .count) where
     abbrev lines : List ℕ
     lines = fieldLines (w .masked) (w .body) (entriesFrom sent m slots count 0)
 
-    pub sent-long : {fields : ℕ} → fields ≡ length lines → {len : ℕ} → len ≡ before + 10 + fields + 2 + j .body
+    pub sent-long : {fields : ℕ} → fields ≡ length lines → {len : ℕ} → len ≡ j .line + fields + 2 + j .body
         → len ≡ length (sentMessage m slots j masked)
     sent-long f a =
-        omega (arith, ap length (lines-are masked ew g ec), sent-parts masked, body-size, length-take-le before m (p .line-within))
+        omega (arith, ap length (lines-are masked ew g ec), sent-parts masked, body-size)
 
     pub sent-room : (d : List ℕ) → length (sentMessage m slots j masked) ≤ length d → {n : ℕ}
-        → n ≡ length (take before m) + (10 + (length lines + (2 + length (take (w .body) (drop (j .rest) m))))) → n ≤ length d
+        → n ≡ j .line + (length lines + (2 + length (take (w .body) (drop (j .rest) m)))) → n ≤ length d
     sent-room d l q = omega (arith, sent-parts masked, rw (lines-are masked ew g ec, ew) at q)
 
     pub sent-wrote : {d d′ : List ℕ} {n : ℕ}
-        → Wrote d 0 (take before m ++ (text " SIP/2.0\r\n" ++ (lines ++ (crlf ++ take (w .body) (drop (j .rest) m))))) n d′
+        → Wrote d 0 (sentStart m (j .before) (j .line) ++ (lines ++ (crlf ++ take (w .body) (drop (j .rest) m)))) n d′
         → Wrote d 0 (sentMessage m slots j masked) n d′
     unfolding sentMessage
     sent-wrote x = rw (lines-are masked ew g ec, ew) at x
@@ -106,7 +99,7 @@ module _ (m slots : List ℕ) {j : Judged} (p : Passes m slots j) where
     long = length (sentMessage m slots j masked)
 
     grows : long < length m + 1024
-    grows = rw (sent-output masked) (growth m (p .request) masked (p .is-accepted))
+    grows = rw (sent-output masked) (growth m (p .message) masked (p .is-accepted))
 
     pub surely-fits : {k : ℕ} → k ≡ length m + 1024 → k ≤ room → 0 ≡ cond (leb long room) 0 long
     surely-fits e l = rw (le-leb long room (omega (arith, grows)))
@@ -121,11 +114,11 @@ module _ (m slots : List ℕ) {j : Judged} (p : Passes m slots j) where
   -- ---- reason 16, or the outgoing message
 
   module _ (side : ℕ) (low : side ≤ 1) {masked : Bool} (mask : masked ≡ (eqb side 1 && j .withheld)) (d : List ℕ) where
-    sent-is : sentMessage m slots j masked ≡ output (masks side (p .request)) (p .request)
+    sent-is : sentMessage m slots j masked ≡ output (masks side (p .message)) (p .message)
     unfolding masks
     sent-is =
-        let k : masked ≡ (eqb side 1 && withheld (p .request .fields)) = mask ∙ ap (λ (x : Bool). eqb side 1 && x) (sym (p .withheld-is)) in
-        rw k (sent-output (eqb side 1 && withheld (p .request .fields)))
+        let k : masked ≡ (eqb side 1 && withheld (p .message .fields)) = mask ∙ ap (λ (x : Bool). eqb side 1 && x) (sym (p .withheld-is)) in
+        rw k (sent-output (eqb side 1 && withheld (p .message .fields)))
 
     abbrev size : ℕ
     size = length (sentMessage m slots j masked)
@@ -140,31 +133,30 @@ module _ (m slots : List ℕ) {j : Judged} (p : Passes m slots j) where
       fits z false q = let k : size ≡ 0 = rw q at (sym e ∙ z) in omega arith
 
       module _ (n : lack ≡ 0 → ⊥) where
-        full-is : screened m side d ≡ refusing (replied (p .request .line) (refusal 16 500 lack 0)) d
+        full-is : screened m side d ≡ refusing (replied (p .message .line) (refusal 16 500 lack 0)) d
         full-is =
             let (a, b) = full n (leb size (length d)) refl in
-            rw (a, sent-is) (answer-full m side d low (p .request) (p .is-accepted) (rw sent-is at b))
+            rw (a, sent-is) (answer-full m side d low (p .message) (p .is-accepted) (rw sent-is at b))
 
         pub full-buffer : d ≡ screened m side d .buffer
         full-buffer = sym (ap (λ (s : Screened). s .buffer) full-is)
 
-        pub full-answer : {x : Refusal} {t : List ℕ} → t ≡ take (j .method) m → x .reason ≡ 16
-            → x .reply ≡ cond (same (text "ACK") t) 0 500 → x .detail ≡ lack → x .missing ≡ 0 → numbersOf (Refused x) ≡ screened m side d .answer
+        pub full-answer : {x : Refusal} → x .reason ≡ 16 → x .reply ≡ cond (j .silent) 0 500 → x .detail ≡ lack → x .missing ≡ 0
+            → numbersOf (Refused x) ≡ screened m side d .answer
         unfolding replied
-        full-answer {x} {t} name a b c f =
-            let k : t ≡ p .request .line .method = name ∙ p .method-is in
-            rw (a, b, c, f, k) (ack (same (text "ACK") (p .request .line .method)) ∙ sym (ap (λ (s : Screened). s .answer) full-is))
+        full-answer {x} a b c f =
+            rw (a, b, c, f, p .silent-is) (quiet (silent (p .message .line)) ∙ sym (ap (λ (s : Screened). s .answer) full-is))
           where
-            ack : (y : Bool) → refusal 16 (cond y 0 500) lack 0 ≡ cond y (refusal 16 0 lack 0) (refusal 16 500 lack 0)
-            ack true = refl
-            ack false = refl
+            quiet : (y : Bool) → refusal 16 (cond y 0 500) lack 0 ≡ cond y (refusal 16 0 lack 0) (refusal 16 500 lack 0)
+            quiet true = refl
+            quiet false = refl
 
       module _ (z : lack ≡ 0) where
         pub write-room : size ≤ length d
         write-room = fits z (leb size (length d)) refl
 
-        sent-all : screened m side d ≡ sending (output (masks side (p .request)) (p .request)) d
-        sent-all = answer-sent m side d low (p .request) (p .is-accepted) (rw sent-is at write-room)
+        sent-all : screened m side d ≡ sending (output (masks side (p .message)) (p .message)) d
+        sent-all = answer-sent m side d low (p .message) (p .is-accepted) (rw sent-is at write-room)
 
         module _ {n : ℕ} {d′ : List ℕ} (w : Wrote d 0 (sentMessage m slots j masked) n d′) where
           pub sent-answer : numbersOf (Accepted n) ≡ screened m side d .answer
@@ -196,6 +188,6 @@ module _ (m : List ℕ) (side : ℕ) (d : List ℕ) where
     pub side-buffer : d ≡ screened m side d .buffer
     side-buffer = sym (ap (λ (s : Screened). s .buffer) (other-side m side d h))
 
--- what judging says of a request that no reason up to 15 refuses
+-- what judging says of a message that no reason but 1 and 16 refuses
 pub passes : (m slots : List ℕ) {j : Judged} → Judges m slots j → j .refusal .reason ≡ 0 → Passes m slots j
 passes m slots e z = e .accepts z

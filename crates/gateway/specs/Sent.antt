@@ -2,7 +2,7 @@
 use mathlib.Core.Path.{_≡_}
 use mathlib.Core.Bool.{Bool, not, _&&_}
 use mathlib.Core.List.{List, _++_}
-use Prim.Native.Nat.{ℕ, _+_}
+use Prim.Native.Nat.{ℕ, _+_, _-_}
 use lib.Dec.{eqb}
 use lib.ListN.{take, drop}
 use Rattle.octets.specs.Classes.{text}
@@ -16,9 +16,12 @@ use Rattle.judgement.specs.Sets.{has}
 pub record Goes (masked : Bool) (kept sent : ℕ) : Type 0 where
   pub member : (n : ℕ) → has sent n ≡ (has kept n && not (masked && eqb n 15))
 
--- the bytes before the version, the version in capitals, the lines of the kept fields, the empty line, the body
+-- the start line, of which these many bytes stand before the version: those, the version in capitals, the bytes after it
+unfoldable pub sentStart : List ℕ → ℕ → ℕ → List ℕ
+sentStart m before line = take before m ++ (text "SIP/2.0" ++ take (line - before - 7) (drop (before + 7) m))
+
+-- the start line, the lines of the kept fields, the empty line, the body
 unfoldable pub sentMessage : List ℕ → List ℕ → Judged → Bool → List ℕ
 sentMessage m slots j masked =
-    take (j .method + 1 + j .uri) m
-    ++ (text " SIP/2.0\r\n"
-    ++ (fieldLines masked (j .body) (entriesFrom (j .kept) m slots (j .count) 0) ++ (crlf ++ take (j .body) (drop (j .rest) m))))
+    sentStart m (j .before) (j .line)
+    ++ (fieldLines masked (j .body) (entriesFrom (j .kept) m slots (j .count) 0) ++ (crlf ++ take (j .body) (drop (j .rest) m)))

@@ -1,4 +1,4 @@
-// The screen: judges a request, and writes the outgoing message into the lent buffer.
+// The screen: judges a request or a response, and writes the outgoing message into the lent buffer.
 use judgement::Judged;
 use judgement::Refusal;
 ghost use mathlib.Core.Path.{_≡_};
@@ -7,8 +7,6 @@ ghost use mathlib.Core.List.{_++_};
 ghost use Prim.Native.Nat.{_+_, _≤_, _<_};
 ghost use lib.Dec.{eqb, leb};
 ghost use lib.ListN.{length, take, drop};
-ghost use Rattle.octets.specs.Classes.{text};
-ghost use Rattle.octets.specs.Scans.{same};
 ghost use Rattle.sip.specs.Lines.{crlf};
 ghost use Rattle.sip.specs.Output.{fieldLines};
 ghost use Rattle.sip.specs.Refusals.{refusal};
@@ -23,7 +21,7 @@ ghost use Rattle.judgement.specs.Judges.{Told, Passes};
 ghost use Rattle.judgement.specs.Sets.{has};
 ghost use Rattle.gateway.specs.Callers.{Calling};
 ghost use Rattle.gateway.specs.Sending.{sendingOf};
-ghost use Rattle.gateway.specs.Sent.{sentMessage};
+ghost use Rattle.gateway.specs.Sent.{sentStart, sentMessage};
 ghost use Rattle.gateway.specs.Verdicts.{numbersOf};
 
 mod copy;
@@ -57,11 +55,13 @@ fn sending_of(j: Judged, masked: bool) -> Sending
     }
 }
 
-// The start line, of which `before` bytes stand before the version, the lines of the fields that go out, and the body, which is at `rest`.
+// The start line of `line` bytes, of which `before` stand before the version, the lines of the fields that go out, and the body, which is
+// at `rest`.
 fn put_message(
     out: &mut [u8],
     message: &[u8],
     before: usize,
+    line: usize,
     rest: usize,
     sent: u32,
     slots: &[u16; 384],
@@ -71,20 +71,20 @@ fn put_message(
     requires { ⌜
         Told (w .hops) (w .tag) (entriesFrom sent (now message) (now slots) count 0) × ((w .masked && has sent 15) ≡ false)
         × Within (now message) (now slots)
-        × (length (take before (now message))
-        + (10 + (length (fieldLines (w .masked) (w .body) (entriesFrom sent (now message) (now slots) count 0))
-        + (2 + length (take (w .body) (drop rest (now message)))))) ≤ length (now out))
+        × (before + 7 ≤ line) × (line ≤ length (now message))
+        × (line
+        + (length (fieldLines (w .masked) (w .body) (entriesFrom sent (now message) (now slots) count 0))
+        + (2 + length (take (w .body) (drop rest (now message))))) ≤ length (now out))
         ⌝ }
     ensures { λ r. ⌜
         Wrote (now (out .entry)) 0
-        (take before (now (message .entry))
-        ++ (text " SIP/2.0\r\n"
+        (sentStart (now (message .entry)) before line
         ++ (fieldLines (w .masked) (w .body) (entriesFrom sent (now (message .entry)) (now (slots .entry)) count 0)
-        ++ (crlf ++ take (w .body) (drop rest (now (message .entry)))))))
+        ++ (crlf ++ take (w .body) (drop rest (now (message .entry))))))
         r (now (out .exit))
         ⌝ }
 {
-    let fields = output::put_start(out, message, before);
+    let fields = output::put_start(out, message, before, line);
     let end = output::put_lines(out, fields, message, sent, slots, count, w);
     output::put_body(out, end, message, rest, w.body)
 }
@@ -107,9 +107,18 @@ fn write(out: &mut [u8], message: &[u8], slots: &[u16; 384], j: Judged, masked: 
 {
     let w = sending_of(j, masked);
     let sent = output::sent_set(j.kept, masked);
-    let before = j.method + 1 + j.uri;
     let count = bounded(j.count);
-    put_message(out, message, before, j.rest, sent, slots, count, w)
+    put_message(
+        out,
+        message,
+        j.before,
+        j.line,
+        j.rest,
+        sent,
+        slots,
+        count,
+        w,
+    )
 }
 
 // The length of the outgoing message.
@@ -119,9 +128,8 @@ fn sent_len(message: &[u8], slots: &[u16; 384], j: Judged, masked: bool) -> usiz
 {
     let w = sending_of(j, masked);
     let sent = output::sent_set(j.kept, masked);
-    let before = j.method + 1 + j.uri;
     let fields = output::lines_len(message, sent, slots, j.count, w);
-    before + 10 + fields + 2 + j.body
+    j.line + fields + 2 + j.body
 }
 
 // The length of the outgoing message where the room is too small for it, else 0. It is less than 1,024 bytes longer than the message, so
@@ -154,12 +162,12 @@ fn is_masked(side: u64, withheld: bool) -> bool
     withheld
 }
 
-// Reason 16. For ACK nothing is sent.
-fn too_long(method: &[u8], needed: usize) -> Refusal
-    ensures { λ r. ⌜ (r .reason ≡ 16) × (r .reply ≡ cond (same (text "ACK") (now (method .entry))) 0 500) × (r .detail ≡ needed) × (r .missing ≡ 0) ⌝ }
+// Reason 16. To an ACK and to a response nothing is replied.
+fn too_long(silent: bool, needed: usize) -> Refusal
+    ensures { λ r. ⌜ (r .reason ≡ 16) × (r .reply ≡ cond silent 0 500) × (r .detail ≡ needed) × (r .missing ≡ 0) ⌝ }
 {
     let detail = needed as u64;
-    if octets::same(b"ACK", method) {
+    if silent {
         return Refusal {
             reason: 16,
             reply: 0,
@@ -175,7 +183,7 @@ fn too_long(method: &[u8], needed: usize) -> Refusal
     }
 }
 
-// Reason 16, or the outgoing message of a request that no other reason refuses.
+// Reason 16, or the outgoing message where no other reason refuses.
 fn deliver(message: &[u8], side: u64, out: &mut [u8], slots: &[u16; 384], j: Judged) -> Verdict
     requires { ⌜ Passes (now message) (now slots) j × (side ≤ 1) ⌝ }
     ensures { λ r. ⌜
@@ -186,7 +194,7 @@ fn deliver(message: &[u8], side: u64, out: &mut [u8], slots: &[u16; 384], j: Jud
     let masked = is_masked(side, j.withheld);
     let lack = needed(message, slots, j, masked, out.len());
     if lack != 0 {
-        return Verdict::Refused(too_long(octets::first(message, j.method), lack));
+        return Verdict::Refused(too_long(j.silent, lack));
     }
     Verdict::Accepted(write(out, message, slots, j, masked))
 }
@@ -203,8 +211,8 @@ fn refused(reason: u64) -> Verdict
     })
 }
 
-// Screens a request that goes to a peer on a side: accepts it and writes the outgoing message, or refuses it and leaves the buffer as it
-// was.
+// Screens a request or a response that goes to a peer on a side: accepts it and writes the outgoing message, or refuses it and leaves the
+// buffer as it was.
 pub fn screen(message: &[u8], side: u64, out: &mut [u8]) -> Verdict
     ensures { λ r. ⌜
         (numbersOf r ≡ screened (now (message .entry)) side (now (out .entry)) .answer)

@@ -10,7 +10,7 @@ ghost use mathlib.Core.List.{_++_};
 ghost use Prim.Native.Nat.{_+_, _-_, _%_, _≤_, _<_, _^_};
 ghost use lib.Dec.{eqb};
 ghost use lib.ListN.{length, take, drop};
-ghost use Rattle.octets.specs.Classes.{text, isGap};
+ghost use Rattle.octets.specs.Classes.{isGap};
 ghost use Rattle.octets.specs.Scans.{any};
 ghost use Rattle.sip.specs.Lines.{crlf, folded, unfoldedAt};
 ghost use Rattle.sip.specs.Output.{numeral, anonymous, sentValue, line, fieldLines};
@@ -19,7 +19,7 @@ ghost use Rattle.emit.specs.Put.{Wrote};
 ghost use Rattle.judgement.specs.Entries.{Within, entryAt, entriesFrom};
 ghost use Rattle.judgement.specs.Judges.{Tells, Told};
 ghost use Rattle.judgement.specs.Sets.{has};
-ghost use Rattle.gateway.specs.Sent.{Goes};
+ghost use Rattle.gateway.specs.Sent.{Goes, sentStart};
 
 // A value as it stands in the message, between its ends.
 fn value_of(message: &[u8], s: Slot) -> &[u8]
@@ -258,15 +258,14 @@ pub(crate) fn put_lines(
     at
 }
 
-// The start line: what stands before the version, and the version in capitals.
-pub(crate) fn put_start(out: &mut [u8], message: &[u8], before: usize) -> usize
-    requires { ⌜ length (take before (now message)) + 10 ≤ length (now out) ⌝ }
-    ensures { λ r. ⌜
-        Wrote (now (out .entry)) 0 (take before (now (message .entry)) ++ text " SIP/2.0\r\n") r (now (out .exit))
-        ⌝ }
+// The start line of `line` bytes: as it came, and then the version, before which `before` bytes stand, in capitals.
+pub(crate) fn put_start(out: &mut [u8], message: &[u8], before: usize, line: usize) -> usize
+    requires { ⌜ (before + 7 ≤ line) × (line ≤ length (now message)) × (line ≤ length (now out)) ⌝ }
+    ensures { λ r. ⌜ Wrote (now (out .entry)) 0 (sentStart (now (message .entry)) before line) r (now (out .exit)) ⌝ }
 {
-    let at = copy::many(out, 0, octets::first(message, before));
-    copy::few(out, at, b" SIP/2.0\r\n")
+    let end = copy::many(out, 0, octets::first(message, line));
+    copy::few(out, before, b"SIP/2.0");
+    end
 }
 
 // The empty line and the body.

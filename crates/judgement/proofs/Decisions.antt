@@ -1,4 +1,4 @@
--- The first reason that applies, out of two lists one after the other; no reason that applies has the number 0.
+-- The first reason that applies, out of lists one after the other; no reason that applies has the number 0.
 use mathlib.Core.Path.{_≡_, refl, _∙_}
 use mathlib.Core.Bool.{Bool, true, false, not, _&&_}
 use mathlib.Core.List.{List, [], _∷_, _++_}
@@ -12,7 +12,7 @@ use Rattle.values.specs.declared.RequestUri.{RequestUri}
 use Rattle.judgement.specs.declared.Refusal.{Refusal}
 use Rattle.judgement.specs.declared.Tally.{Tally}
 use Rattle.judgement.specs.Sets.{lackAt}
-use Rattle.judgement.specs.Judged.{bodyLength, tooLong, hopless, columnTagged, early, late, decided, refusalOf}
+use Rattle.judgement.specs.Judged.{bodyLength, tooLong, hopless, columnTagged, early, shared, late, decided, refusalOf}
 
 first-some : (xs ys : List (Option Answer)) (a : Answer) → firstOf xs ≡ some a → firstOf (xs ++ ys) ≡ some a
 first-some [] ys a e = let z : _≡_ {A = ℕ} 0 1 = cc in absurd (omega arith)
@@ -47,69 +47,91 @@ numbered : (b : Bool) (a : Answer) → (a .reason ≡ 0 → ⊥) → a .length �
 numbered true a h l = (h, l)
 numbered false a h l = tt
 
-module _ (t : Tally) (u : RequestUri) where
-  early-numbered : (rest : ℕ) → AllNumbered (early t u rest)
-  unfolding early
-  early-numbered rest = (
-    numbered (u .other) (refusal 7 416 0 0) (λ q. omega arith) refl,
-    (
-      numbered (not (u .good)) (refusal 8 400 0 0) (λ q. omega arith) refl,
+-- ---- the reasons of a request before and after those of both kinds
+
+early-numbered : (u : RequestUri) → AllNumbered (early u)
+unfolding early
+early-numbered u = (
+  numbered (u .other) (refusal 7 416 0 0) (λ q. omega arith) refl,
+  (
+    numbered (not (u .good)) (refusal 8 400 0 0) (λ q. omega arith) refl,
+    tt,
+  ),
+)
+
+all-shared : (c : Column) (t : Tally) (rest : ℕ) → AllNumbered (shared c t rest)
+unfolding shared
+all-shared c t rest =
+    let k = lackAt c (eqb (bodyLength t rest) 0) (t .seen) in (
+      numbered (not (eqb (t .again) 0)) (refusal 9 400 (t .again) 0) (λ q. omega arith) refl,
       (
-        numbered (not (eqb (t .again) 0)) (refusal 9 400 (t .again) 0) (λ q. omega arith) refl,
+        numbered (not (eqb (t .malformed) 0)) (refusal 10 400 (t .malformed) 0) (λ q. omega arith) refl,
         (
-          numbered (not (eqb (t .malformed) 0)) (refusal 10 400 (t .malformed) 0) (λ q. omega arith) refl,
+          numbered (tooLong t rest) (refusal 11 400 0 0) (λ q. omega arith) refl,
           (
-            numbered (tooLong t rest) (refusal 11 400 0 0) (λ q. omega arith) refl,
+            numbered (not (eqb (k .count) 0)) (refusal 12 400 (k .lowest) (k .count)) (λ q. omega arith) refl,
             tt,
           ),
         ),
       ),
+    )
+
+late-numbered : (c : Column) (t : Tally) (u : RequestUri) → AllNumbered (late c t u)
+unfolding late
+late-numbered c t u = (
+  numbered (hopless t) (refusal 13 483 0 0) (λ q. omega arith) refl,
+  (
+    numbered (not (eqb (t .lacking) 0)) (refusal 14 420 (t .lacking) 0) (λ q. omega arith) refl,
+    (
+      numbered (isInitial c && not (u .called)) (refusal 15 484 0 0) (λ q. omega arith) refl,
+      tt,
     ),
-  )
+  ),
+)
 
-  late-numbered : (c : Column) (body : ℕ) → AllNumbered (late c t u body)
-  unfolding late
-  late-numbered c body =
-      let k = lackAt c (eqb body 0) (t .seen) in (
-        numbered (not (eqb (k .count) 0)) (refusal 12 400 (k .lowest) (k .count)) (λ q. omega arith) refl,
-        (
-          numbered (hopless t) (refusal 13 483 0 0) (λ q. omega arith) refl,
-          (
-            numbered (not (eqb (t .lacking) 0)) (refusal 14 420 (t .lacking) 0) (λ q. omega arith) refl,
-            (
-              numbered (isInitial c && not (u .called)) (refusal 15 484 0 0) (λ q. omega arith) refl,
-              tt,
-            ),
-          ),
-        ),
-      )
+pub shared-numbered : (c : Column) (t : Tally) (rest : ℕ) → Numbered (firstOf (shared c t rest))
+shared-numbered c t rest = numbered-first (shared c t rest) (all-shared c t rest)
 
-  module _ (c : Column) (rest : ℕ) where
-    pub decided-numbered : Numbered (firstOf (decided c t u rest))
+-- ---- two lists, one after the other
+
+module _ (xs ys : List (Option Answer)) {x : Refusal} (e : x ≡ refusalOf (firstOf xs)) where
+  stopped : (x .reason ≡ 0 → ⊥) → x ≡ refusalOf (firstOf (xs ++ ys))
+  stopped h = go (firstOf xs) refl
+    where
+      go : (o : Option Answer) → firstOf xs ≡ o → x ≡ refusalOf (firstOf (xs ++ ys))
+      go none q = let z : x .reason ≡ 0 = rw (e, q) in absurd (h z)
+      go (some a) q = e ∙ rw (q, first-some xs ys a q)
+
+  gone-on : AllNumbered xs → x .reason ≡ 0 → firstOf (xs ++ ys) ≡ firstOf ys
+  gone-on k h = go (firstOf xs) refl (numbered-first xs k)
+    where
+      go : (o : Option Answer) → firstOf xs ≡ o → Numbered o → firstOf (xs ++ ys) ≡ firstOf ys
+      go none q n = first-none xs ys q
+      go (some a) q n = let z : a .reason ≡ 0 = rw (e, q) at h in absurd (n .0 z)
+
+module _ (c : Column) (t : Tally) (u : RequestUri) (rest : ℕ) where
+  abbrev tagged : Column
+  tagged = columnTagged c (not (eqb (t .tagged) 0))
+
+  pub decided-numbered : Numbered (firstOf (decided c t u rest))
+  unfolding decided
+  decided-numbered =
+      numbered-first (decided c t u rest)
+      (numbered-append (early u) (shared tagged t rest ++ late tagged t u) (early-numbered u)
+      (numbered-append (shared tagged t rest) (late tagged t u) (all-shared tagged t rest) (late-numbered tagged t u)))
+
+  module _ {x : Refusal} (e : x ≡ refusalOf (firstOf (early u))) where
+    pub stop-early : (x .reason ≡ 0 → ⊥) → x ≡ refusalOf (firstOf (decided c t u rest))
     unfolding decided
-    decided-numbered =
-        numbered-first (decided c t u rest)
-        (numbered-append (early t u rest) (late (columnTagged c (not (eqb (t .tagged) 0))) t u (bodyLength t rest)) (early-numbered rest)
-        (late-numbered (columnTagged c (not (eqb (t .tagged) 0))) (bodyLength t rest)))
+    stop-early h = stopped (early u) (shared tagged t rest ++ late tagged t u) e h
 
-    module _ {x : Refusal} (e : x ≡ refusalOf (firstOf (early t u rest))) where
-      pub stop : (x .reason ≡ 0 → ⊥) → x ≡ refusalOf (firstOf (decided c t u rest))
+    module _ (z : x .reason ≡ 0) {d : Column} (hd : d ≡ tagged) {y : Refusal} (f : y ≡ refusalOf (firstOf (shared d t rest))) where
+      after : firstOf (decided c t u rest) ≡ firstOf (shared d t rest ++ late d t u)
       unfolding decided
-      stop h = go (firstOf (early t u rest)) refl
-        where
-          go : (o : Option Answer) → firstOf (early t u rest) ≡ o → x ≡ refusalOf (firstOf (decided c t u rest))
-          go none q = let z : x .reason ≡ 0 = rw (e, q) in absurd (h z)
-          go (some a) q =
-              e
-              ∙ rw (q, first-some (early t u rest) (late (columnTagged c (not (eqb (t .tagged) 0))) t u (bodyLength t rest)) a q)
+      after = gone-on (early u) (shared tagged t rest ++ late tagged t u) e (early-numbered u) z ∙ rw hd
 
-      pub go-on : x .reason ≡ 0 → {d : Column} → d ≡ columnTagged c (not (eqb (t .tagged) 0)) → {n : ℕ} → n ≡ bodyLength t rest
-          → {r : Refusal} → r ≡ refusalOf (firstOf (late d t u n)) → r ≡ refusalOf (firstOf (decided c t u rest))
-      unfolding decided
-      go-on h {d} hd {n} hn {r} hr = go (firstOf (early t u rest)) refl (numbered-first (early t u rest) (early-numbered rest))
-        where
-          go : (o : Option Answer) → firstOf (early t u rest) ≡ o → Numbered o → r ≡ refusalOf (firstOf (decided c t u rest))
-          go none q k =
-              hr
-              ∙ rw (hd, hn, first-none (early t u rest) (late (columnTagged c (not (eqb (t .tagged) 0))) t u (bodyLength t rest)) q)
-          go (some a) q k = let z : a .reason ≡ 0 = rw (e, q) at h in absurd (k .0 z)
+      pub stop-shared : (y .reason ≡ 0 → ⊥) → y ≡ refusalOf (firstOf (decided c t u rest))
+      stop-shared h = rw after (stopped (shared d t rest) (late d t u) f h)
+
+      pub go-on : y .reason ≡ 0 → {r : Refusal} → r ≡ refusalOf (firstOf (late d t u)) → r ≡ refusalOf (firstOf (decided c t u rest))
+      go-on h g = g ∙ rw (after, gone-on (shared d t rest) (late d t u) f (all-shared d t rest) h)

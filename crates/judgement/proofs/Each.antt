@@ -9,7 +9,7 @@ use lib.Dec.{eqb}
 use borrow.Author.Tests.{eqb-true, eqb-false}
 use Rattle.octets.specs.Classes.{bit}
 use Rattle.sip.specs.declared.Column.{Column}
-use Rattle.sip.specs.declared.Column.the-variants.{Invite, Reinvite, Ack, Bye, Cancel, Options}
+use Rattle.sip.specs.declared.Column.the-variants.{Invite, Reinvite, Ack, Bye, Cancel, Options, InviteSuccess, CancelResponse, OtherResponse}
 use Rattle.sip.specs.Profile.{rows, find, mark, ignored}
 use Rattle.sip.specs.Refusals.{Entry, valueOf, wellFormed, firstMalformed}
 use Rattle.sip.proofs.Once.{times}
@@ -50,6 +50,9 @@ kept-listed Ack = kept-has Ack 0
 kept-listed Bye = kept-has Bye 0
 kept-listed Cancel = kept-has Cancel 0
 kept-listed Options = kept-has Options 0
+kept-listed InviteSuccess = kept-has InviteSuccess 0
+kept-listed CancelResponse = kept-has CancelResponse 0
+kept-listed OtherResponse = kept-has OtherResponse 0
 
 abbrev pub WellFormed : List ℕ → Entry → Type 0
 WellFormed method e = wellFormed method (e .number) (e .value) ≡ true

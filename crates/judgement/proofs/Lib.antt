@@ -13,6 +13,9 @@ pub mod Kept
 pub mod Decisions
 pub mod Reasons
 pub mod Parts
+pub mod Statuses
 pub mod Judging
+pub mod RequestJudging
+pub mod ResponseJudging
 pub mod Messages
 pub mod Counted

@@ -1,22 +1,27 @@
 -- The kept fields of a message, out of the slots that reading it left.
-use mathlib.Core.Bool.{cond}
+use mathlib.Core.Bool.{Bool, cond}
 use mathlib.Core.List.{List, [], _∷_}
 use Prim.Native.Nat.{ℕ, zero, suc, _+_, _≤_}
+use lib.Dec.{eqb}
 use lib.ListN.{length}
 use Rattle.sip.specs.Lines.{folded}
 use Rattle.sip.specs.Refusals.{Entry}
 use Rattle.sip.specs.Readings.{part}
 use Rattle.lines.specs.declared.Slot.{Slot}
-use Rattle.lines.specs.Index.{slotAt}
+use Rattle.lines.specs.Index.{noSlot, slotAt}
 use Rattle.judgement.specs.Sets.{has}
 
 -- every slot lies within the message
 abbrev pub Within : List ℕ → List ℕ → Type 0
 Within m slots = (i : ℕ) → slotAt slots i .start + slotAt slots i .len ≤ length m
 
+-- a value without spaces, tabs and line breaks at its ends, in its canonical form: with a line break in it or not
+abbrev pub unfoldedBy : Bool → List ℕ → List ℕ
+unfoldedBy fold v = cond fold (folded 0 v) v
+
 -- the value that a slot speaks of, in its canonical form
 unfoldable pub valueAt : List ℕ → Slot → List ℕ
-valueAt m s = let v = part (record { start = s .start; len = s .len }) m in cond (s .folded) (folded 0 v) v
+valueAt m s = unfoldedBy (s .folded) (part (record { start = s .start; len = s .len }) m)
 
 abbrev pub entryAt : List ℕ → Slot → Entry
 entryAt m s = record { number = s .number; value = valueAt m s }
@@ -27,3 +32,8 @@ entriesFrom set m ns zero i = []
 entriesFrom set m ns (suc k) i =
     let others = entriesFrom set m ns k (suc i) in
     cond (has set (slotAt ns i .number)) (entryAt m (slotAt ns i) ∷ others) others
+
+-- the first CSeq among k slots from the i-th on; no slot where there is none
+unfoldable pub cseqSlot : List ℕ → ℕ → ℕ → Slot
+cseqSlot ns zero i = noSlot
+cseqSlot ns (suc k) i = let later = cseqSlot ns k (suc i) in cond (eqb (slotAt ns i .number) 6) (slotAt ns i) later

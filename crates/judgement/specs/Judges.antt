@@ -1,17 +1,18 @@
--- What the judgement of a message comes to, in document 01's words.
+-- What the judgement of a message comes to, in the pages' words.
 use mathlib.Core.Path.{_≡_}
-use mathlib.Core.Bool.{false, not}
+use mathlib.Core.Bool.{not}
 use mathlib.Core.List.{List, [], _∷_}
 use mathlib.Core.Option.{none, some}
 use Prim.Native.Nat.{ℕ, _+_, _-_, _≤_}
 use lib.ListN.{length, take, drop}
 use Rattle.octets.specs.Scans.{decimal}
 use Rattle.sip.specs.declared.Span.{Span}
-use Rattle.sip.specs.Lines.{Header}
-use Rattle.sip.specs.Profile.{columnOf, ignored}
+use Rattle.sip.specs.Lines.{startSize, Header}
+use Rattle.sip.specs.Profile.{ignored}
 use Rattle.sip.specs.Readings.{noSpan, part}
+use Rattle.sip.specs.Output.{beforeVersion}
 use Rattle.sip.specs.Values.{tagOf}
-use Rattle.sip.specs.Refusals.{refusal, read, lines, Entry, valueOf, keptOf, withheld, Request, refused, accepted, judgement}
+use Rattle.sip.specs.Refusals.{refusal, read, lines, Entry, valueOf, messageColumn, keptOf, silent, withheld, Passed, refused, accepted, judgement}
 use Rattle.values.specs.Answers.{identityAt}
 use Rattle.judgement.specs.declared.Judged.{Judged}
 use Rattle.judgement.specs.Sets.{has}
@@ -28,33 +29,33 @@ pub data Told (hops : ℕ) (tag : Span) : List Entry → Type 0 where
   nothing : Told hops tag []
   also : {e : Entry} {es : List Entry} → Tells hops tag e → Told hops tag es → Told hops tag (e ∷ es)
 
--- no reason up to 15 refuses it: document 01's judgement accepts this request, and this is what the answer and the slots say of it
+-- no reason but 1 and 16 refuses it: the judgement of the pages accepts this message, and this is what the answer and the slots say of it
 pub record Passes (m slots : List ℕ) (r : Judged) : Type 0 where
-  pub request : Request
+  pub message : Passed
   pub header : Header
-  pub is-accepted : judgement m ≡ accepted request
-  pub is-read : lines m ≡ read (request .line) header
+  pub is-accepted : judgement m ≡ accepted message
+  pub is-read : lines m ≡ read (message .line) header
   -- where its parts stand in the message
   pub short : length m ≤ 8192
   pub few : r .count ≤ 96
   pub within : Within m slots
-  pub method-long : r .method ≡ length (request .line .method)
-  pub uri-long : r .uri ≡ length (request .line .uri)
-  pub line-within : r .method + 1 + r .uri ≤ length m
-  pub method-is : take (r .method) m ≡ request .line .method
+  pub silent-is : r .silent ≡ silent (message .line)
+  pub before-is : r .before ≡ beforeVersion (message .line)
+  pub line-is : r .line ≡ startSize (message .line)
+  pub line-within : r .line ≤ length m
   -- its fields are those that the column keeps, and the slots hold them
-  pub fields-kept : request .fields ≡ keptOf (request .line) (header .fields)
-  pub kept-is : (n : ℕ) → has (r .kept) n ≡ not (ignored (columnOf (request .line .method) false) n)
-  pub fields-held : request .fields ≡ entriesFrom (r .kept) m slots (r .count) 0
+  pub fields-kept : message .fields ≡ keptOf (message .line) (header .fields)
+  pub kept-is : (n : ℕ) → has (r .kept) n ≡ not (ignored (messageColumn (message .line) (header .fields)) n)
+  pub fields-held : message .fields ≡ entriesFrom (r .kept) m slots (r .count) 0
   -- its body, and what its fields say
-  pub body-is : request .body ≡ take (r .body) (drop (r .rest) m)
+  pub body-is : message .body ≡ take (r .body) (drop (r .rest) m)
   pub body-there : r .body ≤ length m - r .rest
-  pub withheld-is : withheld (request .fields) ≡ r .withheld
-  pub told : Told (r .hops) (r .tag) (request .fields)
+  pub withheld-is : withheld (message .fields) ≡ r .withheld
+  pub told : Told (r .hops) (r .tag) (message .fields)
   -- the number stands there in the canonical value of its P-Asserted-Identity; no part exactly where it has none
-  pub number-is : (v : List ℕ) → valueOf 15 (request .fields) ≡ some v → identityAt v ≡ r .number
-  pub number-there : (v : List ℕ) → valueOf 15 (request .fields) ≡ some v → r .number .len ≡ 0 → ⊥
-  pub number-none : valueOf 15 (request .fields) ≡ none → r .number ≡ noSpan
+  pub number-is : (v : List ℕ) → valueOf 15 (message .fields) ≡ some v → identityAt v ≡ r .number
+  pub number-there : (v : List ℕ) → valueOf 15 (message .fields) ≡ some v → r .number .len ≡ 0 → ⊥
+  pub number-none : valueOf 15 (message .fields) ≡ none → r .number ≡ noSpan
 
 -- a reason of 0 means that none applies
 pub record Judges (m slots : List ℕ) (r : Judged) : Type 0 where

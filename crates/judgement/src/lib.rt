@@ -1,16 +1,22 @@
-// Judges a request: the reasons 2 to 15, and what the writer needs to know of a request that none of them refuses.
+// Judges a message: the reasons 2 to 15 and 17, and what the writer needs to know of a message that none of them refuses.
 ghost use mathlib.Core.Path.{_≡_};
+ghost use Prim.Native.Nat.{_+_, _≤_};
+ghost use lib.ListN.{length};
 ghost use Rattle.lines.specs.Index.{index};
 ghost use Rattle.judgement.specs.Sets.{has};
-ghost use Rattle.judgement.specs.Judged.{judgedMessage};
+ghost use Rattle.judgement.specs.Entries.{Within};
+ghost use Rattle.judgement.specs.Judged.{judgedLines, judgedMessage};
 ghost use Rattle.judgement.specs.Judges.{Judges};
 
+mod columns;
 mod findings;
 mod refusals;
+mod requests;
+mod responses;
 mod sets;
 mod tallies;
 
-// Why a request is refused: document 01's reason, reply, detail and missing count.
+// Why a message is refused: the pages' reason, reply, detail and missing count.
 pub struct Refusal {
     pub reason: u64,
     pub reply: u64,
@@ -18,7 +24,7 @@ pub struct Refusal {
     pub missing: u64,
 }
 
-// The column of a method, the initial one for an INVITE.
+// The column of a request's method, the initial one for an INVITE.
 pub(crate) enum ColumnOf {
     Is(sip::Column),
     Unknown,
@@ -57,14 +63,16 @@ pub(crate) struct Tally {
     pub number: sip::Span,
 }
 
-// A request that no reason up to 15 refuses (reason 0), or the refusal. Of such a request: the lengths of method and Request-URI, where
-// the bytes after the empty line start, how many slots there are; the set of fields that it keeps, what its Max-Forwards says, the
-// length of its body, whether its caller is withheld, and where the tag stands in its From and the number in its P-Asserted-Identity, both
-// in the canonical value (no part where there is none).
+// A message that no reason but 1 and 16 refuses (reason 0), or the refusal. Of such a message: whether nothing is ever replied to it, how
+// many bytes of its start line stand before the version, the length of its start line, where the bytes after the empty line start, how
+// many slots there are; the set of fields that it keeps, what its Max-Forwards says, the length of its body, whether its caller is
+// withheld, and where the tag stands in its From and the number in its P-Asserted-Identity, both in the canonical value (no part where
+// there is none).
 pub struct Judged {
     pub refusal: Refusal,
-    pub method: usize,
-    pub uri: usize,
+    pub silent: bool,
+    pub before: usize,
+    pub line: usize,
     pub rest: usize,
     pub count: usize,
     pub kept: u32,
@@ -82,9 +90,20 @@ pub fn in_set(set: u32, n: usize) -> bool
     sets::in_set(set, n)
 }
 
+// A message that was read. A response has no method in its start line, so that its length tells the kind.
+fn judge_read(message: &[u8], m: lines::Message, slots: &[u16; 384]) -> Judged
+    requires { ⌜ (length (now message) ≤ 8192) × (m .count ≤ 96) × (m .method + m .uri ≤ 8192) × (m .rest ≤ length (now message)) × Within (now message) (now slots) ⌝ }
+    ensures { λ r. ⌜ r ≡ judgedLines (now (message .entry)) (now (slots .entry)) m ⌝ }
+{
+    if m.method == 0 {
+        return responses::judge_response(message, m, slots);
+    }
+    requests::judge_request(message, m, slots)
+}
+
 // Reads and judges a message; the slots are what `lines::read` leaves. The answer is `judgedMessage`: what the pass over the slots comes to,
-// by masks and tallies. And it `Judges` the message in document 01's words: it refuses with just the page's numbers, or no reason up to
-// 15 applies, and then it and the slots say what the page's request is.
+// by masks and tallies. And it `Judges` the message in the pages' words: it refuses with just their numbers, or no reason but 1 and 16
+// applies, and then it and the slots say what the accepted message is.
 pub fn judge(message: &[u8], slots: &mut [u16; 384]) -> Judged
     ensures { λ r. ⌜
         (r ≡ judgedMessage (now (message .entry)))
@@ -97,5 +116,5 @@ pub fn judge(message: &[u8], slots: &mut [u16; 384]) -> Judged
     if reason != 0 {
         return refusals::refused(refusals::refusal(reason, 0, 0, 0));
     }
-    refusals::judge_read(message, m, slots)
+    judge_read(message, m, slots)
 }

@@ -98,6 +98,9 @@ pub(crate) fn kept_set(c: Column) -> u32
         Column::Bye => 0b000_0111_1111_0111_1110,
         Column::Cancel => 0b000_0000_1101_0111_1110,
         Column::Options => 0b010_0111_0111_1111_1110,
+        Column::InviteSuccess => 0b110_0111_1011_1111_1010,
+        Column::CancelResponse => 0b000_0000_0001_0111_1010,
+        Column::OtherResponse => 0b110_0111_1011_1111_1010,
     }
 }
 
@@ -113,6 +116,9 @@ pub(crate) fn mandatory_set(c: Column, empty: bool) -> u32
             Column::Bye => 0b0000_0000_0111_1110,
             Column::Cancel => 0b0000_0000_0111_1110,
             Column::Options => 0b0000_0000_0111_1110,
+            Column::InviteSuccess => 0b0000_0000_1111_1010,
+            Column::CancelResponse => 0b0000_0000_0111_1010,
+            Column::OtherResponse => 0b0000_0000_0111_1010,
         };
     }
     match c {
@@ -122,6 +128,9 @@ pub(crate) fn mandatory_set(c: Column, empty: bool) -> u32
         Column::Bye => 0b0000_0010_0111_1110,
         Column::Cancel => 0b0000_0000_0111_1110,
         Column::Options => 0b0000_0010_0111_1110,
+        Column::InviteSuccess => 0b0000_0010_1111_1010,
+        Column::CancelResponse => 0b0000_0000_0111_1010,
+        Column::OtherResponse => 0b0000_0010_0111_1010,
     }
 }
 

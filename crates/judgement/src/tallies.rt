@@ -12,8 +12,9 @@ ghost use lib.Dec.{eqb};
 ghost use lib.ListN.{length, take, drop};
 ghost use Rattle.sip.specs.Lines.{folded};
 ghost use Rattle.sip.specs.Profile.{once};
+ghost use Rattle.sip.specs.Values.{isCSeq};
 ghost use Rattle.judgement.specs.Sets.{has};
-ghost use Rattle.judgement.specs.Entries.{Within, entriesFrom};
+ghost use Rattle.judgement.specs.Entries.{Within, unfoldedBy, entriesFrom};
 ghost use Rattle.judgement.specs.Tallies.{finding, orElse, noted, counted, required, said, noTally, tallied};
 ghost use Rattle.judgement.specs.Judged.{takenUp};
 
@@ -232,8 +233,20 @@ fn finding_folded(method: &[u8], n: usize, v: &[u8]) -> Finding
     finding_long(method, n, v)
 }
 
+// A value, folded or not, is a CSeq with this method.
+pub(crate) fn is_cseq(method: &[u8], v: &[u8], fold: bool) -> bool
+    requires { ⌜ length (now v) ≤ 8192 ⌝ }
+    ensures { λ r. ⌜ r ≡ isCSeq (now (method .entry)) (unfoldedBy fold (now (v .entry))) ⌝ }
+{
+    if fold {
+        let f = finding_folded(method, 6, v);
+        return f.good;
+    }
+    values::is_cseq(method, v)
+}
+
 // The value that a slot speaks of, where it stands.
-fn value_of(message: &[u8], s: Slot) -> &[u8]
+pub(crate) fn value_of(message: &[u8], s: Slot) -> &[u8]
     requires { ⌜ s .start + s .len ≤ length (now message) ⌝ }
     ensures { λ r. ⌜ (now r ≡ take (s .len) (drop (s .start) (now (message .entry)))) × (length (now r) ≤ length (now (message .entry))) ⌝ }
 {

@@ -2,6 +2,7 @@ pub mod Classes
 pub mod Values
 pub mod Trims
 pub mod Starts
+pub mod Statuses
 pub mod Fields
 pub mod NamedFields
 pub mod Spellings

@@ -9,15 +9,13 @@ use Rattle.sip.specs.Refusals.{Lines, unread, read, lines}
 use Rattle.sip.specs.Readings.{place, spans, count, readingAt, reading}
 use Rattle.sip.specs.declared.Span.{Span}
 use Rattle.sip.proofs.Within.{reading-within}
-use Rattle.lines.specs.Places.{startAt}
 use Rattle.lines.specs.Index.{packed, zeros, padded, Indexed, unreadHead, unreadIndex, index}
-use Rattle.lines.specs.Passes.{settled, firstSlots, spansIn, countedIn}
-use Rattle.lines.specs.declared.StartAt.{StartAt}
-use Rattle.lines.specs.declared.StartAt.the-variants.{Found, Bad}
+use Rattle.lines.specs.Passes.{startLengths, settled, firstSlots, spansIn, countedIn}
+use Rattle.lines.specs.declared.start.Lengths.{Lengths}
 use Rattle.lines.specs.declared.Message.{Message}
 use Rattle.lines.specs.declared.header.Ended.{Ended}
 use Rattle.lines.specs.declared.slots.Counted.{Counted}
-use Rattle.lines.proofs.Starts.{start-bad, start-read}
+use Rattle.lines.proofs.Starts.{same-line, no-start}
 use Rattle.lines.proofs.Counts.{message-spans}
 
 -- no slots are stored yet
@@ -27,7 +25,7 @@ cleared q = q
 
 -- ---- how the fields end
 
-module _ (m : List ℕ) (method uri : ℕ) (e : Ended) (ns : List ℕ) (h : settled method uri e ns ≡ index m) where
+module _ (m : List ℕ) (e : Ended) (ns : List ℕ) (h : settled m e ns ≡ index m) where
   module _ (n : e .reason ≡ 0 → ⊥) where
     unread-is : index m ≡ unreadIndex (e .reason)
     unfolding settled
@@ -39,12 +37,13 @@ module _ (m : List ℕ) (method uri : ℕ) (e : Ended) (ns : List ℕ) (h : sett
     pub settled-cleared : {ss : List ℕ} → ss ≡ zeros 384 → ss ≡ index m .slots
     settled-cleared q = q ∙ sym (ap (λ (x : Indexed). x .slots) unread-is)
 
-  module _ (z : e .reason ≡ 0) where
-    read-is : record { head = record { reason = 0; method = method; uri = uri; rest = e .rest; count = e .count }; slots = ns } ≡ index m
+  module _ (z : e .reason ≡ 0) {l : Lengths} (hl : l ≡ startLengths m) where
+    read-is :
+        record { head = record { reason = 0; method = l .method; uri = l .uri; line = l .line; rest = e .rest; count = e .count }; slots = ns } ≡ index m
     unfolding settled
-    read-is = rw (eq-eqb (e .reason) 0 z) at h
+    read-is = rw hl (rw (eq-eqb (e .reason) 0 z) at h)
 
-    pub settled-read : record { reason = 0; method = method; uri = uri; rest = e .rest; count = e .count } ≡ index m .head
+    pub settled-read : record { reason = 0; method = l .method; uri = l .uri; line = l .line; rest = e .rest; count = e .count } ≡ index m .head
     settled-read = ap (λ (x : Indexed). x .head) read-is
 
     pub settled-slots : ns ≡ index m .slots
@@ -52,24 +51,16 @@ module _ (m : List ℕ) (method uri : ℕ) (e : Ended) (ns : List ℕ) (h : sett
 
 -- ---- the start line
 
-module _ (m : List ℕ) {r : StartAt} (hr : r ≡ startAt m) where
-  module _ (l : length m ≤ 8192) (q : r ≡ Bad) where
-    no-start : index m ≡ unreadIndex 3
-    unfolding index lines
-    no-start = rw (le-leb (length m) 8192 l, start-bad m hr q)
+module _ (m : List ℕ) (l : length m ≤ 8192) {start : Lengths} (e : start ≡ startLengths m) (h : start .line < 1) where
+  not-begun : index m ≡ unreadIndex 3
+  unfolding index lines
+  not-begun = rw (le-leb (length m) 8192 l, no-start m (same-line e) h)
 
-    pub start-unread : {x : Message} → x ≡ unreadHead 3 → x ≡ index m .head
-    start-unread h = h ∙ sym (ap (λ (x : Indexed). x .head) no-start)
+  pub start-unread : {x : Message} → x ≡ unreadHead 3 → x ≡ index m .head
+  start-unread q = q ∙ sym (ap (λ (x : Indexed). x .head) not-begun)
 
-    pub start-cleared : {ss : List ℕ} → ss ≡ zeros 384 → ss ≡ index m .slots
-    start-cleared h = h ∙ sym (ap (λ (x : Indexed). x .slots) no-start)
-
-  module _ {method uri : ℕ} (q : r ≡ Found method uri) where
-    pub start-is : startAt m ≡ Found method uri
-    start-is = sym hr ∙ q
-
-    pub start-room : method + uri + 11 ≤ length m
-    start-room = omega (arith, start-read m hr q .line-fits)
+  pub start-cleared : {ss : List ℕ} → ss ≡ zeros 384 → ss ≡ index m .slots
+  start-cleared q = q ∙ sym (ap (λ (x : Indexed). x .slots) not-begun)
 
 module _ (m : List ℕ) (l : 8192 < length m) where
   too-long : index m ≡ unreadIndex 2

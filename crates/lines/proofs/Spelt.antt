@@ -13,11 +13,11 @@ use Rattle.octets.specs.Scans.{run, starts, sameText}
 use Rattle.octets.proofs.Places.{drop2}
 use Rattle.octets.proofs.Runs.{run-no, run-exact}
 use Rattle.sip.specs.Profile.{rows, lookup, numberOf, find, nameOf}
+use Rattle.sip.proofs.Tests.{range-low, range-high}
 use Rattle.sip.proofs.Names.{NameShaped, listed-name}
 use Rattle.lines.specs.Places.{namedAt}
 use Rattle.lines.specs.Sizes.{colonSize}
 use Rattle.lines.specs.Passes.{FoundName}
-use Rattle.lines.proofs.Starts.{within-true}
 use Rattle.lines.proofs.Spellings.{bounded-number}
 use Rattle.lines.proofs.Quads.{Stands}
 
@@ -86,8 +86,7 @@ pub spelt : {s : List ℕ} {at : ℕ} (n : ℕ) → within 1 18 n ≡ true → S
     → {v : ℕ} → v ≡ at + (length (nameOf n) + 1) → at + 20 ≤ length s → FoundName s at (record { number = n; value = v })
 unfolding told
 spelt {s} {at} n h e {v} hv l =
-    let i = within-true 1 18 n h in
-    let a = and-eq-true-iff (leb (length (nameOf n)) 19) (eqb (numberOf (nameOf n)) n) .0 (one-of 18 n every-listed (i .0) (i .1)) in
+    let a = and-eq-true-iff (leb (length (nameOf n)) 19) (eqb (numberOf (nameOf n)) n) .0 (one-of 18 n every-listed (range-low 1 18 n h) (range-high 1 18 n h)) in
     name-told s at (nameOf n) e (sym (eqb-true (numberOf (nameOf n)) n (a .1))) hv (omega (arith, leb-true (length (nameOf n)) 19 (a .0)))
 
 -- ---- the compact ones

@@ -1,4 +1,5 @@
--- The start line by the tests of its readers: each test is one part of the condition of `start`.
+-- The start line by the tests of its readers: each test is one part of the condition of `requestLine`; and the lengths of either kind, by
+-- the line that is read.
 use mathlib.Core.Path.{_≡_, refl, sym, ap, _∙_}
 use mathlib.Core.Bool.{Bool, true, false, not, cond, _&&_, and-eq-true-iff}
 use mathlib.Core.List.{List}
@@ -6,7 +7,7 @@ use mathlib.Core.Option.{Option, none, some}
 use Prim.Native.Nat.{ℕ, _+_, _-_, _≤_, _<_}
 use native.Mathlib.Omega.{arith}
 use lib.Dec.{leb}
-use lib.ListN.{length, take, drop, getD, drop-of-length-le, length-take, length-drop}
+use lib.ListN.{length, take, drop, getD, drop-of-length-le, length-append, length-take, length-drop}
 use lib.Seq.{length-take-le, drop-drop}
 use borrow.Author.Tests.{ne-eqb, leb-true, le-leb, lt-leb, not-true, not-false}
 use Rattle.octets.specs.Classes.{text, within, isToken, isVisible}
@@ -14,11 +15,14 @@ use Rattle.octets.specs.Scans.{run, starts, sameText}
 use Rattle.octets.proofs.Places.{drop1}
 use Rattle.octets.proofs.Runs.{run-le}
 use Rattle.octets.proofs.Texts.{sameText-length}
-use Rattle.sip.specs.Lines.{isVersion, Start, start}
+use Rattle.sip.specs.Lines.{RequestLine, StatusLine, Start, request, response, isVersion, isVersionFirst, requestLine, statusLine, startOf, start, startBytes, startSize}
+use Rattle.sip.specs.Change.{StartShaped}
+use Rattle.sip.proofs.Starts.{start-here}
 use Rattle.lines.specs.Places.{startPlaces, startAt}
+use Rattle.lines.specs.Passes.{lengthsOf, requestLengths, sizeOf, statusSize, startLengths}
 use Rattle.lines.specs.Sizes.{uriSize}
-use Rattle.lines.specs.declared.StartAt.{StartAt}
-use Rattle.lines.specs.declared.StartAt.the-variants.{Found, Bad}
+use Rattle.lines.specs.declared.start.Lengths.{Lengths}
+use Rattle.lines.specs.declared.StartAt.the-variants.{Request, Status, Bad}
 use Rattle.lines.proofs.Quads.{Stands}
 
 -- ---- the version
@@ -87,6 +91,9 @@ module _ (s : List ℕ) (at : ℕ) {e : ℕ} (he : e ≡ at + run isVisible (dro
 abbrev goodUri : List ℕ → Bool
 goodUri w = within 1 256 (run isVisible w) && isVersion (take 10 (drop (run isVisible w) w))
 
+abbrev noLine : Lengths
+noLine = record { method = 0; uri = 0; line = 0 }
+
 uri-no : (w : List ℕ) → uriSize w < 1 → goodUri w ≡ false
 unfolding uriSize
 uri-no w h = go (goodUri w) refl
@@ -111,24 +118,24 @@ module _ (s : List ℕ) (m : ℕ) (hm : m ≡ 0 + run isToken (drop 0 s)) where
   m-is : run isToken s ≡ m
   m-is = omega arith
 
-  pub method-short : m < 1 → Bad ≡ startAt s
-  unfolding startAt start
+  pub method-short : m < 1 → noLine ≡ requestLengths s
+  unfolding requestLengths requestLine
   method-short h = rw (m-is, lt-leb 1 m h)
 
-  pub method-long : 32 < m → Bad ≡ startAt s
-  unfolding startAt start
+  pub method-long : 32 < m → noLine ≡ requestLengths s
+  unfolding requestLengths requestLine
   method-long h = let l : 1 ≤ m = omega arith in rw (m-is, le-leb 1 m l, lt-leb m 32 h)
 
   module _ (a : 1 ≤ m) (b : m ≤ 32) where
-    no-space-at : starts 32 (drop m s) ≡ false → Bad ≡ startAt s
-    unfolding startAt start
+    no-space-at : starts 32 (drop m s) ≡ false → noLine ≡ requestLengths s
+    unfolding requestLengths requestLine
     no-space-at q = rw (m-is, le-leb 1 m a, le-leb m 32 b, q)
 
-    pub method-last : length s ≤ m → Bad ≡ startAt s
+    pub method-last : length s ≤ m → noLine ≡ requestLengths s
     unfolding starts
     method-last h = no-space-at (rw (drop-of-length-le s h))
 
-    pub no-space : m < length s → (getD s m 0 ≡ 32 → ⊥) → Bad ≡ startAt s
+    pub no-space : m < length s → (getD s m 0 ≡ 32 → ⊥) → noLine ≡ requestLengths s
     unfolding starts
     no-space h n = no-space-at (rw (drop1 s m h, ne-eqb (getD s m 0) 32 n))
 
@@ -140,76 +147,120 @@ module _ (s : List ℕ) (m : ℕ) (hm : m ≡ 0 + run isToken (drop 0 s)) where
       good-is : goodUri (drop n s) ≡ (within 1 256 (run isVisible (drop (m + 1) s)) && isVersion (take 10 (drop (m + 1 + run isVisible (drop (m + 1) s)) s)))
       good-is = rw (hn, drop-drop (run isVisible (drop (m + 1) s)) (m + 1) s)
 
-      pub no-uri : u < 1 → Bad ≡ startAt s
-      unfolding startAt start
+      pub no-uri : u < 1 → noLine ≡ requestLengths s
+      unfolding requestLengths requestLine
       no-uri l = rw (m-is, le-leb 1 m a, le-leb m 32 b, space, ← good-is, uri-no (drop n s) (omega arith))
 
-      pub a-start : 1 ≤ u → Found m u ≡ startAt s
-      unfolding startAt start
-      a-start l =
+      pub a-request : 1 ≤ u → {k : ℕ} → k ≡ m + u + 11 → record { method = m; uri = u; line = k } ≡ requestLengths s
+      unfolding requestLengths requestLine
+      a-request l {k} z =
           let y = uri-yes (drop n s) (omega arith) in
           let c : run isVisible (drop (m + 1) s) ≡ u = ap (λ (i : ℕ). run isVisible (drop i s)) (sym hn) ∙ y .1 ∙ sym hu in
           let d : length (take m s) ≡ m = length-take-le m s (omega (arith, run-le isToken s)) in
           let f : length (take u (drop (m + 1) s)) ≡ u = length-take-le u (drop (m + 1) s) (omega (arith, run-le isVisible (drop (m + 1) s))) in
-          rw (m-is, le-leb 1 m a, le-leb m 32 b, space, ← good-is, y .0, c, d, f)
+          let w : m + 1 + u + 10 ≡ k = omega arith in
+          rw (m-is, le-leb 1 m a, le-leb m 32 b, space, ← good-is, y .0, c, d, f, w)
 
--- ---- what a caller knows of a start line that is found
+-- ---- the start line of either kind
 
-pub record StartRead (s : List ℕ) (m u : ℕ) : Type 0 where
-  pub reads : start s ≡ some (record { method = take m s; uri = take u (drop (m + 1) s) })
-  pub method-fits : (1 ≤ m) × (m ≤ 32)
-  pub uri-fits : (1 ≤ u) × (u ≤ 256)
-  pub line-fits : m + 1 + u + 10 ≤ length s
+pub same-line : {x y : Lengths} → x ≡ y → x .line ≡ y .line
+same-line e = ap (λ (x : Lengths). x .line) e
 
--- the method's length, and the Request-URI's
-abbrev methodSize : List ℕ → ℕ
-methodSize s = run isToken s
+same-method : {x y : Lengths} → x ≡ y → x .method ≡ y .method
+same-method e = ap (λ (x : Lengths). x .method) e
 
-abbrev uriRun : List ℕ → ℕ
-uriRun s = run isVisible (drop (methodSize s + 1) s)
+bytes-long : (l : Start) (v : List ℕ) → StartShaped l v → length (startBytes l v) ≡ startSize l
+unfolding isVersion isVersionFirst text
+bytes-long (request l) v w = simp length-append (omega (arith, sameText-length (text " SIP/2.0\r\n") v (w .version-written)))
+bytes-long (response l) v w = simp length-append (omega (arith, sameText-length (text "SIP/2.0 ") v (w .version-written)))
 
-abbrev startOf : List ℕ → Start
-startOf s = record { method = take (methodSize s) s; uri = take (uriRun s) (drop (methodSize s + 1) s) }
+line-fits : (s : List ℕ) → startLengths s .line ≤ length s
+unfolding startLengths
+line-fits s = go (start s) refl
+  where
+    go : (o : Option Start) → start s ≡ o → lengthsOf o .line ≤ length s
+    go none e = omega arith
+    go (some l) e =
+        let h = start-here s l e in
+        omega (arith, bytes-long l (h .version) (h .shaped), length-append (startBytes l (h .version)) (drop (startSize l) s), ap length (h .here))
 
-abbrev goodStart : List ℕ → Bool
-goodStart s = within 1 32 (methodSize s) && (starts 32 (drop (methodSize s) s) && (within 1 256 (uriRun s) && isVersion (take 10 (drop (methodSize s + 1 + uriRun s) s))))
+module _ (s : List ℕ) {r : Lengths} (hr : r ≡ requestLengths s) where
+  module _ (h : 0 < r .line) where
+    pub is-request : r ≡ startLengths s
+    unfolding requestLengths startLengths start
+    is-request = go (requestLine s) hr
+      where
+        go : (o : Option RequestLine) → r ≡ lengthsOf (startOf o none) → r ≡ lengthsOf (startOf o (statusLine s))
+        go none e = absurd (omega (arith, same-line e))
+        go (some l) e = e
 
-start-by : (s : List ℕ) → start s ≡ cond (goodStart s) (some (startOf s)) none
-unfolding start
-start-by s = refl
+    pub request-fits : r .line ≤ length s
+    request-fits = rw is-request (line-fits s)
 
-pub within-true : (lo hi n : ℕ) → within lo hi n ≡ true → (lo ≤ n) × (n ≤ hi)
-within-true lo hi n e = let i = and-eq-true-iff (leb lo n) (leb n hi) .0 e in (leb-true lo n (i .0), leb-true n hi (i .1))
+  module _ (h : r .line ≤ 0) {n : ℕ} (hn : n ≡ statusSize s) where
+    pub is-status : record { method = 0; uri = 0; line = n } ≡ startLengths s
+    unfolding requestLengths statusSize startLengths start
+    is-status = rw hn (go (requestLine s) (statusLine s) hr)
+      where
+        go : (o : Option RequestLine) (a : Option StatusLine) → r ≡ lengthsOf (startOf o none)
+            → record { method = 0; uri = 0; line = sizeOf a } ≡ lengthsOf (startOf o a)
+        go none none e = refl
+        go none (some l) e = refl
+        go (some l) a e = absurd (omega (arith, same-line e))
 
-good-read : (s : List ℕ) → goodStart s ≡ true → {m u : ℕ} → m ≡ length (take (methodSize s) s) → u ≡ length (take (uriRun s) (drop (methodSize s + 1) s)) → StartRead s m u
-good-read s e {m} {u} a b =
-    let i = and-eq-true-iff (within 1 32 (methodSize s)) (starts 32 (drop (methodSize s) s) && (within 1 256 (uriRun s) && isVersion (take 10 (drop (methodSize s + 1 + uriRun s) s)))) .0 e in
-    let j = and-eq-true-iff (starts 32 (drop (methodSize s) s)) (within 1 256 (uriRun s) && isVersion (take 10 (drop (methodSize s + 1 + uriRun s) s))) .0 (i .1) in
-    let k = and-eq-true-iff (within 1 256 (uriRun s)) (isVersion (take 10 (drop (methodSize s + 1 + uriRun s) s))) .0 (j .1) in
-    let c : m ≡ methodSize s = a ∙ length-take-le (methodSize s) s (run-le isToken s) in
-    let d : u ≡ uriRun s = b ∙ length-take-le (uriRun s) (drop (methodSize s + 1) s) (run-le isVisible (drop (methodSize s + 1) s)) in
-    let f = within-true 1 32 (methodSize s) (i .0) in
-    let g = within-true 1 256 (uriRun s) (k .0) in
-    record {
-      reads = start-by s ∙ rw (e, c, d);
-      method-fits = omega arith;
-      uri-fits = omega arith;
-      line-fits = omega (arith, version-fits (drop (methodSize s + 1 + uriRun s) s) (k .1), length-drop (methodSize s + 1 + uriRun s) s);
-    }
+    pub status-fits : n ≤ length s
+    status-fits = rw (same-line is-status) (line-fits s)
 
-module _ (s : List ℕ) {r : StartAt} (hr : r ≡ startAt s) where
-  pub start-bad : r ≡ Bad → start s ≡ none
-  unfolding startAt
-  start-bad q = go (start s) (sym q ∙ hr)
+-- ---- what the line's length says
+
+module _ (s : List ℕ) {n : ℕ} (e : n ≡ startLengths s .line) where
+  pub no-start : n < 1 → start s ≡ none
+  unfolding startLengths
+  no-start h = go (start s) e
     where
-      go : (o : Option Start) → Bad ≡ startPlaces o → o ≡ none
-      go none e = refl
-      go (some l) e = cc
+      go : (o : Option Start) → n ≡ lengthsOf o .line → o ≡ none
+      go none q = refl
+      go (some (request l)) q = absurd (omega arith)
+      go (some (response l)) q = absurd (omega arith)
 
-  pub start-read : {m u : ℕ} → r ≡ Found m u → StartRead s m u
-  unfolding startAt
-  start-read {m} {u} q = go (goodStart s) refl (sym q ∙ hr ∙ ap startPlaces (start-by s))
+  pub start-found : 1 ≤ n → (l : Start) × (start s ≡ some l) × (n ≡ startSize l)
+  unfolding startLengths
+  start-found h = go (start s) refl e
     where
-      go : (t : Bool) → goodStart s ≡ t → Found m u ≡ startPlaces (cond t (some (startOf s)) none) → StartRead s m u
-      go true p y = good-read s p (cc) (cc)
-      go false p y = let z : _≡_ {A = ℕ} 0 1 = cc in absurd (omega arith)
+      go : (o : Option Start) → start s ≡ o → n ≡ lengthsOf o .line → (l : Start) × (start s ≡ some l) × (n ≡ startSize l)
+      go none p q = absurd (omega arith)
+      go (some l) p q = (l, p, q)
+
+-- ---- the start line by its kind
+
+module _ (s : List ℕ) {r : Lengths} (hr : r ≡ startLengths s) where
+  pub bad-start : r .line < 1 → Bad ≡ startAt s
+  unfolding startAt
+  bad-start h = rw (no-start s (same-line hr) h)
+
+  module _ (g : 1 ≤ r .line) where
+    module _ (h : r .method < 1) where
+      response-read : (l : StatusLine) × (start s ≡ some (response l)) × (r .line ≡ length (l .phrase) + 14)
+      unfolding startLengths
+      response-read = go (start s) refl hr
+        where
+          go : (o : Option Start) → start s ≡ o → r ≡ lengthsOf o → (l : StatusLine) × (start s ≡ some (response l)) × (r .line ≡ length (l .phrase) + 14)
+          go none p e = absurd (omega (arith, same-line e))
+          go (some (request l)) p e = absurd (omega (arith, same-method e, start-here s (request l) p .shaped .method-long))
+          go (some (response l)) p e = (l, p, omega (arith, same-line e, start-here s (response l) p .shaped .code-long))
+
+      pub response-long : 14 ≤ r .line
+      response-long = let (l, p, e) = response-read in omega arith
+
+      pub a-response : {n : ℕ} → n ≡ r .line - 14 → Status n ≡ startAt s
+      unfolding startAt
+      a-response {n} z = let (l, p, e) = response-read in let w : n ≡ length (l .phrase) = omega arith in rw (p, w)
+
+    pub is-request-line : 1 ≤ r .method → Request (r .method) (r .uri) ≡ startAt s
+    unfolding startLengths startAt
+    is-request-line h = go (start s) hr
+      where
+        go : (o : Option Start) → r ≡ lengthsOf o → Request (r .method) (r .uri) ≡ startPlaces o
+        go none e = absurd (omega (arith, same-line e))
+        go (some (request l)) e = rw e
+        go (some (response l)) e = absurd (omega (arith, same-method e))

@@ -6,7 +6,7 @@ use lib.Dec.{eqb, ltb}
 use lib.ListN.{length, getD}
 use Rattle.octets.specs.Classes.{bit, isBreak, isGap}
 use Rattle.octets.specs.Scans.{any}
-use Rattle.sip.specs.Lines.{Start, startSize, Field, bytes, Header, trim}
+use Rattle.sip.specs.Lines.{Start, request, response, startSize, Field, bytes, Header, trim}
 use Rattle.sip.specs.Profile.{numberOf}
 use Rattle.sip.specs.Refusals.{Lines, unread, read, lines}
 use Rattle.sip.specs.Readings.{valueSpan}
@@ -61,10 +61,19 @@ pub record Indexed : Type 0 where
   pub slots : List ℕ
 
 abbrev pub unreadHead : ℕ → Message
-unreadHead reason = record { reason = reason; method = 0; uri = 0; rest = 0; count = 0 }
+unreadHead reason = record { reason = reason; method = 0; uri = 0; line = 0; rest = 0; count = 0 }
 
 abbrev pub unreadIndex : ℕ → Indexed
 unreadIndex reason = record { head = unreadHead reason; slots = zeros 384 }
+
+-- the lengths of a request's method and Request-URI; a response has neither
+abbrev pub methodLength : Start → ℕ
+methodLength (request l) = length (l .method)
+methodLength (response l) = 0
+
+abbrev pub uriLength : Start → ℕ
+uriLength (request l) = length (l .uri)
+uriLength (response l) = 0
 
 abbrev pub readIndex : List ℕ → Start → Header → Indexed
 readIndex m l h =
@@ -73,8 +82,9 @@ readIndex m l h =
       head =
           record {
             reason = 0;
-            method = length (l .method);
-            uri = length (l .uri);
+            method = methodLength l;
+            uri = uriLength l;
+            line = startSize l;
             rest = length m - length (h .rest);
             count = length ss;
           };

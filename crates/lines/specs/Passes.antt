@@ -1,22 +1,46 @@
--- What the passes inside this crate leave: over the fields of a message, and over its slots.
+-- What the passes inside this crate leave: over the start line of a message, over its fields, and over its slots.
 use mathlib.Core.Path.{_≡_}
 use mathlib.Core.Bool.{Bool, not, cond, _&&_}
 use mathlib.Core.List.{List, [], _∷_, _++_}
+use mathlib.Core.Option.{Option, none, some}
 use Prim.Native.Nat.{ℕ, zero, suc, _+_, _*_, _≤_, _<_}
 use lib.Dec.{leb, eqb, ltb}
 use lib.ListN.{length, set}
 use Rattle.octets.specs.Classes.{bit, isBreak, isGap}
 use Rattle.octets.specs.Scans.{run, any}
-use Rattle.sip.specs.Lines.{trim}
+use Rattle.sip.specs.Lines.{requestLine, StatusLine, statusLine, Start, response, startOf, start, startSize, trim}
 use Rattle.sip.specs.Readings.{noSpan, place}
 use Rattle.sip.specs.Values.{isEmpty}
 use Rattle.sip.specs.declared.Span.{Span}
 use Rattle.lines.specs.Places.{namedAt}
-use Rattle.lines.specs.Index.{slotAt, Indexed, unreadIndex, noSlot}
+use Rattle.lines.specs.Index.{slotAt, Indexed, unreadIndex, methodLength, uriLength, noSlot}
 use Rattle.lines.specs.declared.Slot.{Slot}
 use Rattle.lines.specs.declared.named.Named.{Named}
+use Rattle.lines.specs.declared.start.Lengths.{Lengths}
 use Rattle.lines.specs.declared.header.Ended.{Ended}
 use Rattle.lines.specs.declared.slots.Counted.{Counted}
+
+-- ---- the start line, by its lengths
+
+abbrev pub lengthsOf : Option Start → Lengths
+lengthsOf none = record { method = 0; uri = 0; line = 0 }
+lengthsOf (some l) = record { method = methodLength l; uri = uriLength l; line = startSize l }
+
+-- the request line at the front of a text
+unfoldable pub requestLengths : List ℕ → Lengths
+requestLengths s = lengthsOf (startOf (requestLine s) none)
+
+abbrev pub sizeOf : Option StatusLine → ℕ
+sizeOf none = 0
+sizeOf (some l) = startSize (response l)
+
+-- how many bytes the status line has
+unfoldable pub statusSize : List ℕ → ℕ
+statusSize s = sizeOf (statusLine s)
+
+-- the start line of either kind
+unfoldable pub startLengths : List ℕ → Lengths
+startLengths s = lengthsOf (start s)
 
 -- ---- over the fields
 
@@ -59,10 +83,14 @@ unfoldable pub closedEnd : ℕ → ℕ → ℕ → Ended
 closedEnd number rest count = cond (leb number 96) (record { reason = 0; rest = rest; count = count }) (refusedEnd 5)
 
 -- the message whose fields end so
-unfoldable pub settled : ℕ → ℕ → Ended → List ℕ → Indexed
-settled method uri e ns =
+unfoldable pub settled : List ℕ → Ended → List ℕ → Indexed
+settled m e ns =
+    let l = startLengths m in
     cond (eqb (e .reason) 0)
-    (record { head = record { reason = 0; method = method; uri = uri; rest = e .rest; count = e .count }; slots = ns })
+    (record {
+      head = record { reason = 0; method = l .method; uri = l .uri; line = l .line; rest = e .rest; count = e .count };
+      slots = ns;
+    })
     (unreadIndex (e .reason))
 
 -- ---- over the slots

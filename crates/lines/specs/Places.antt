@@ -1,4 +1,4 @@
--- What the line readers answer: the lengths of document 01's lines as places in a text.
+-- What the line readers answer: the lengths of the pages' lines as places in a text.
 use mathlib.Core.Bool.{Bool, cond, _&&_}
 use mathlib.Core.List.{List}
 use mathlib.Core.Option.{Option, none, some}
@@ -7,18 +7,19 @@ use lib.Dec.{ltb}
 use lib.ListN.{length, take, drop}
 use Rattle.octets.specs.Classes.{isBreak, isToken}
 use Rattle.octets.specs.Scans.{run, any}
-use Rattle.sip.specs.Lines.{Start, start, Shape, shape}
+use Rattle.sip.specs.Lines.{Start, request, response, start, Shape, shape}
 use Rattle.sip.specs.Profile.{numberOf}
 use Rattle.lines.specs.Sizes.{colonSize}
 use Rattle.lines.specs.declared.StartAt.{StartAt}
-use Rattle.lines.specs.declared.StartAt.the-variants.{Found as StartFound, Bad as NoStart}
+use Rattle.lines.specs.declared.StartAt.the-variants.{Request as RequestAt, Status as StatusAt, Bad as NoStart}
 use Rattle.lines.specs.declared.FieldAt.{FieldAt}
 use Rattle.lines.specs.declared.FieldAt.the-variants.{Found, Bad}
 use Rattle.lines.specs.declared.named.Named.{Named}
 
 abbrev pub startPlaces : Option Start → StartAt
 startPlaces none = NoStart
-startPlaces (some l) = StartFound (length (l .method)) (length (l .uri))
+startPlaces (some (request l)) = RequestAt (length (l .method)) (length (l .uri))
+startPlaces (some (response l)) = StatusAt (length (l .phrase))
 
 -- the start line at the front of a text
 unfoldable pub startAt : List ℕ → StartAt

@@ -1,10 +1,10 @@
 // All lines of a message in one pass: reasons 2 to 5, or the listed fields.
 use crate::Message;
 use crate::Slot;
-use crate::StartAt;
 use crate::field;
 use crate::named;
 use crate::start;
+use crate::start::Lengths;
 use crate::value;
 ghost use mathlib.Core.Path.{_≡_};
 ghost use mathlib.Core.Bool.{cond};
@@ -14,10 +14,8 @@ ghost use lib.ListN.{length, take, drop};
 ghost use Rattle.octets.specs.Classes.{classTable, bit, isBreak};
 ghost use Rattle.octets.specs.Scans.{any};
 ghost use Rattle.sip.specs.Lines.{startsCRLF};
-ghost use Rattle.lines.specs.Places.{startAt};
 ghost use Rattle.lines.specs.Index.{zeros, padded, unreadHead, index};
-ghost use Rattle.lines.specs.Passes.{slotFor, listedSlot, Small, stored, keeps, refusedEnd, closedEnd, settled};
-ghost use Rattle.lines.specs.declared.StartAt.the-variants.{Found};
+ghost use Rattle.lines.specs.Passes.{slotFor, listedSlot, Small, stored, keeps, refusedEnd, closedEnd, startLengths, settled};
 
 // How the fields end: the reason why they are not read, or 0; where the rest starts; how many listed fields have a slot.
 pub(crate) struct Ended {
@@ -42,6 +40,7 @@ pub(crate) fn unread(slots: &mut [u16; 384], reason: u64) -> Message
         reason,
         method: 0,
         uri: 0,
+        line: 0,
         rest: 0,
         count: 0,
     }
@@ -196,14 +195,14 @@ fn unnamed(s: &[u8], at: usize, number: usize, count: usize) -> Ended
     refused(4)
 }
 
-// Reads the fields after a start line of these lengths. Past 96 of them it goes on without slots, since a bad shape comes first.
-fn fields(table: &[u8; 256], s: &[u8], slots: &mut [u16; 384], method: usize, uri: usize) -> Ended
-    requires { ⌜ (now table ≡ classTable) × (length (now s) ≤ 8192) × (startAt (now s) ≡ Found method uri) × (method + uri + 11 ≤ length (now s)) × (now slots ≡ padded []) ⌝ }
-    ensures { λ r. ⌜ settled method uri r (now (slots .exit)) ≡ index (now (s .entry)) ⌝ }
+// Reads the fields after a start line of this length. Past 96 of them it goes on without slots, since a bad shape comes first.
+fn fields(table: &[u8; 256], s: &[u8], slots: &mut [u16; 384], line: usize) -> Ended
+    requires { ⌜ (now table ≡ classTable) × (length (now s) ≤ 8192) × (line ≡ startLengths (now s) .line) × (1 ≤ line) × (line ≤ length (now s)) × (now slots ≡ padded []) ⌝ }
+    ensures { λ r. ⌜ settled (now (s .entry)) r (now (slots .exit)) ≡ index (now (s .entry)) ⌝ }
 {
     let mut count = 0;
     let mut number: usize = 0;
-    let mut at = method + uri + 11;
+    let mut at = line;
     while at < s.len() {
         let n = named::read(table, s, at);
         let value = n.value;
@@ -224,26 +223,21 @@ fn fields(table: &[u8; 256], s: &[u8], slots: &mut [u16; 384], method: usize, ur
 }
 
 // The message after a start line of these lengths.
-fn after_start(
-    table: &[u8; 256],
-    s: &[u8],
-    slots: &mut [u16; 384],
-    method: usize,
-    uri: usize,
-) -> Message
-    requires { ⌜ (now table ≡ classTable) × (length (now s) ≤ 8192) × (startAt (now s) ≡ Found method uri) × (method + uri + 11 ≤ length (now s)) ⌝ }
+fn after_start(table: &[u8; 256], s: &[u8], slots: &mut [u16; 384], start: Lengths) -> Message
+    requires { ⌜ (now table ≡ classTable) × (length (now s) ≤ 8192) × (start ≡ startLengths (now s)) × (1 ≤ start .line) × (start .line ≤ length (now s)) ⌝ }
     ensures { λ r. ⌜ (r ≡ index (now (s .entry)) .head) × (now (slots .exit) ≡ index (now (s .entry)) .slots) ⌝ }
 {
     clear(slots);
-    let end = fields(table, s, slots, method, uri);
+    let end = fields(table, s, slots, start.line);
     let reason = end.reason;
     if reason != 0 {
         return unread(slots, reason);
     }
     Message {
         reason: 0,
-        method,
-        uri,
+        method: start.method,
+        uri: start.uri,
+        line: start.line,
         rest: end.rest,
         count: end.count,
     }
@@ -253,8 +247,9 @@ pub(crate) fn lines(table: &[u8; 256], s: &[u8], slots: &mut [u16; 384]) -> Mess
     requires { ⌜ (now table ≡ classTable) × (length (now s) ≤ 8192) ⌝ }
     ensures { λ r. ⌜ (r ≡ index (now (s .entry)) .head) × (now (slots .exit) ≡ index (now (s .entry)) .slots) ⌝ }
 {
-    match start::read(table, s) {
-        StartAt::Bad => unread(slots, 3),
-        StartAt::Found { method, uri } => after_start(table, s, slots, method, uri),
+    let start = start::read(table, s);
+    if start.line < 1 {
+        return unread(slots, 3);
     }
+    after_start(table, s, slots, start)
 }

@@ -17,12 +17,15 @@ mod names;
 mod scan;
 mod slots;
 mod start;
+mod status;
 mod value;
 mod words;
 
-// The start line at the front of a text, by the lengths of its method and its Request-URI.
+// The start line at the front of a text: a request line by the lengths of its method and its Request-URI, or a status line by that of its
+// phrase.
 pub enum StartAt {
-    Found { method: usize, uri: usize },
+    Request { method: usize, uri: usize },
+    Status { phrase: usize },
     Bad,
 }
 
@@ -47,12 +50,13 @@ pub struct Slot {
     pub folded: bool,
 }
 
-// A message by its lines: the reason of 2 to 5 why it is not read, or 0; the lengths of method and Request-URI; where the rest starts,
-// after the empty line; how many listed fields there are.
+// A message by its lines: the reason of 2 to 5 why it is not read, or 0; the lengths of method and Request-URI (a response has neither: both
+// are 0 then) and of the start line; where the rest starts, after the empty line; how many listed fields there are.
 pub struct Message {
     pub reason: u64,
     pub method: usize,
     pub uri: usize,
+    pub line: usize,
     pub rest: usize,
     pub count: usize,
 }
@@ -62,7 +66,19 @@ pub fn start_line(s: &[u8]) -> StartAt
     ensures { λ r. ⌜ r ≡ startAt (now (s .entry)) ⌝ }
 {
     let table = octets::class_table();
-    start::read(&table, s)
+    let found = start::read(&table, s);
+    if found.line < 1 {
+        return StartAt::Bad;
+    }
+    // No method is empty. A status line has 14 bytes beside its phrase.
+    if found.method < 1 {
+        let phrase = found.line - 14;
+        return StartAt::Status { phrase };
+    }
+    StartAt::Request {
+        method: found.method,
+        uri: found.uri,
+    }
 }
 
 // The field at a place of a text.

@@ -4,7 +4,7 @@ ghost use mathlib.Core.Bool.{cond, _||_};
 ghost use Prim.Native.Nat.{_+_, _-_, _≤_};
 ghost use lib.Dec.{eqb, ltb};
 ghost use lib.ListN.{length, drop};
-ghost use Rattle.octets.specs.Classes.{classTable, isToken, isBlank, isValue, isVisible};
+ghost use Rattle.octets.specs.Classes.{classTable, isToken, isBlank, isDigit, isValue, isVisible};
 ghost use Rattle.octets.specs.Scans.{run};
 
 pub(crate) fn tokens(table: &[u8; 256], s: &[u8], at: usize) -> usize
@@ -19,6 +19,13 @@ pub(crate) fn blanks(table: &[u8; 256], s: &[u8], at: usize) -> usize
     ensures { λ r. ⌜ (r ≡ at + run isBlank (drop at (now (s .entry)))) × (r ≤ at + (length (now (s .entry)) - at)) ⌝ }
 {
     octets::run_at(table, s, at, octets::BLANK)
+}
+
+pub(crate) fn digits(table: &[u8; 256], s: &[u8], at: usize) -> usize
+    requires { ⌜ now table ≡ classTable ⌝ }
+    ensures { λ r. ⌜ (r ≡ at + run isDigit (drop at (now (s .entry)))) × (r ≤ at + (length (now (s .entry)) - at)) ⌝ }
+{
+    octets::run_at(table, s, at, octets::DIGIT)
 }
 
 pub(crate) fn values(table: &[u8; 256], s: &[u8], at: usize) -> usize

@@ -1,6 +1,6 @@
-// The start line: method, space, Request-URI, space, SIP version, CRLF. Its parts are places of the one text.
-use crate::StartAt;
+// The start line. That of a request: method, space, Request-URI, space, SIP version, CRLF. Its parts are places of the one text.
 use crate::scan;
+use crate::status;
 use crate::words;
 ghost use mathlib.Core.Path.{_≡_};
 ghost use mathlib.Core.Bool.{true, cond};
@@ -8,8 +8,8 @@ ghost use Prim.Native.Nat.{_+_, _-_, _≤_};
 ghost use lib.ListN.{length, take, drop};
 ghost use Rattle.octets.specs.Classes.{classTable};
 ghost use Rattle.sip.specs.Lines.{isVersion};
-ghost use Rattle.lines.specs.Places.{startAt};
 ghost use Rattle.lines.specs.Sizes.{uriSize};
+ghost use Rattle.lines.specs.Passes.{requestLengths, startLengths};
 
 // The SIP version stands at a place in capitals, as it is mostly written.
 fn in_capitals(s: &[u8], at: usize) -> bool
@@ -41,7 +41,7 @@ fn is_version(s: &[u8], at: usize) -> bool
 // The bytes of the Request-URI at a place. 0 where it is too short or long, or no SIP version ends the line after it.
 fn uri_size(table: &[u8; 256], s: &[u8], at: usize) -> usize
     requires { ⌜ (now table ≡ classTable) × (at ≤ length (now s)) ⌝ }
-    ensures { λ r. ⌜ r ≡ uriSize (drop at (now (s .entry))) ⌝ }
+    ensures { λ r. ⌜ (r ≡ uriSize (drop at (now (s .entry)))) × (r ≤ 256) ⌝ }
 {
     let end = scan::visible(table, s, at);
     if end <= at {
@@ -57,28 +57,60 @@ fn uri_size(table: &[u8; 256], s: &[u8], at: usize) -> usize
     uri
 }
 
-// The start line at the front of a text, by the class table that is lent.
-pub(crate) fn read(table: &[u8; 256], s: &[u8]) -> StartAt
+// A start line by its lengths: those of the method and the Request-URI, which a response has not, and that of the line. All are 0 where
+// no start line stands.
+pub(crate) struct Lengths {
+    pub method: usize,
+    pub uri: usize,
+    pub line: usize,
+}
+
+const NO_LINE: Lengths = Lengths {
+    method: 0,
+    uri: 0,
+    line: 0,
+};
+
+// The request line at the front of a text, by the class table that is lent.
+fn request(table: &[u8; 256], s: &[u8]) -> Lengths
     requires { ⌜ now table ≡ classTable ⌝ }
-    ensures { λ r. ⌜ r ≡ startAt (now (s .entry)) ⌝ }
+    ensures { λ r. ⌜ r ≡ requestLengths (now (s .entry)) ⌝ }
 {
     let method = scan::tokens(table, s, 0);
     if method < 1 {
-        return StartAt::Bad;
+        return NO_LINE;
     }
     if 32 < method {
-        return StartAt::Bad;
+        return NO_LINE;
     }
     if s.len() <= method {
-        return StartAt::Bad;
+        return NO_LINE;
     }
     if s[method] != b' ' {
-        return StartAt::Bad;
+        return NO_LINE;
     }
     let next = method + 1;
     let uri = uri_size(table, s, next);
     if uri < 1 {
-        return StartAt::Bad;
+        return NO_LINE;
     }
-    StartAt::Found { method, uri }
+    let line = method + uri + 11;
+    Lengths { method, uri, line }
+}
+
+// The start line at the front of a text, by the class table that is lent. A status line is looked for only where no request line stands.
+pub(crate) fn read(table: &[u8; 256], s: &[u8]) -> Lengths
+    requires { ⌜ now table ≡ classTable ⌝ }
+    ensures { λ r. ⌜ (r ≡ startLengths (now (s .entry))) × (r .line ≤ length (now (s .entry))) ⌝ }
+{
+    let found = request(table, s);
+    if 0 < found.line {
+        return found;
+    }
+    let line = status::size(table, s);
+    Lengths {
+        method: 0,
+        uri: 0,
+        line,
+    }
 }

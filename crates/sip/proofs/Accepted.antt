@@ -1,4 +1,4 @@
--- An accepted request is made of the lines that were read, no field repeats that must not, and every value is well formed.
+-- An accepted message is made of the lines that were read, no field repeats that must not, and every value is well formed.
 use mathlib.Core.Path.{_≡_, refl}
 use mathlib.Core.Bool.{Bool, true, false, not, cond}
 use mathlib.Core.List.{List, [], _∷_}
@@ -8,10 +8,12 @@ use lib.Dec.{eqb}
 use lib.ListN.{drop}
 use borrow.Author.Tests.{eqb-true}
 use Rattle.sip.specs.declared.Column.{Column}
-use Rattle.sip.specs.Lines.{Start}
+use Rattle.octets.specs.Classes.{within}
+use Rattle.sip.specs.Lines.{RequestLine, StatusLine, Start, request, response}
 use Rattle.sip.specs.Profile.{columnOf}
-use Rattle.sip.specs.Refusals.{Answer, refusal, replied, Entry, valueOf, toTagged, bodyOf, when, firstRepeat, wellFormed, firstMalformed}
-use Rattle.sip.specs.Refusals.{reason7, reason8, reason9, reason10, firstOf, reasons, Request, refused, accepted, judged}
+use Rattle.sip.specs.Refusals.{Answer, refusal, Entry, valueOf, toTagged, when, firstRepeat, wellFormed, firstMalformed}
+use Rattle.sip.specs.Refusals.{reason7, reason8, reason9, reason10, firstOf, reasons, responseReasons, Passed, passed, refused, accepted}
+use Rattle.sip.specs.Refusals.{judgedRequest, firstCSeqMethod, statusOf, responseColumnOf, judgedResponse, judged}
 use Rattle.sip.proofs.Tests.{never}
 
 none-first : (a : Option Answer) (rs : List (Option Answer)) → firstOf (a ∷ rs) ≡ none → (a ≡ none) × (firstOf rs ≡ none)
@@ -29,33 +31,68 @@ none-repeats : (es : List Entry) → reason9 es ≡ none → firstRepeat [] es �
 unfolding reason9
 none-repeats es e = when-none (firstRepeat [] es) (refusal 9 400 (firstRepeat [] es) 0) e
 
-none-malformed : (l : Start) (es : List Entry) → reason10 l es ≡ none → firstMalformed (l .method) es ≡ 0
+none-malformed : (method : List ℕ) (es : List Entry) → reason10 method es ≡ none → firstMalformed method es ≡ 0
 unfolding reason10
-none-malformed l es e = when-none (firstMalformed (l .method) es) (refusal 10 400 (firstMalformed (l .method) es) 0) e
+none-malformed method es e = when-none (firstMalformed method es) (refusal 10 400 (firstMalformed method es) 0) e
 
-pub record Accepted (l : Start) (es : List Entry) (rest : List ℕ) (r : Request) : Type 0 where
-  pub made : r ≡ record { line = l; fields = es; body = bodyOf es rest }
+-- the method of a message, with which its CSeq is judged
+abbrev pub methodOf : Start → List Entry → List ℕ
+methodOf (request l) es = l .method
+methodOf (response l) es = firstCSeqMethod es
+
+pub record Accepted (l : Start) (es : List Entry) (rest : List ℕ) (r : Passed) : Type 0 where
+  pub made : r ≡ passed l es rest
   pub unrepeated : firstRepeat [] es ≡ 0
-  pub formed : firstMalformed (l .method) es ≡ 0
+  pub formed : firstMalformed (methodOf l es) es ≡ 0
 
-pub judged-inv : (l : Start) (es : List Entry) (rest : List ℕ) (r : Request) → judged l es rest ≡ accepted r → Accepted l es rest r
-unfolding judged reasons
-judged-inv l es rest r e = go (columnOf (l .method) (toTagged es)) refl
+-- no judgement is both
+pub not-both : {A : Type 0} {a : Answer} {r : Passed} → refused a ≡ accepted r → A
+not-both e = never (cc)
+
+request-inv : (l : RequestLine) (es : List Entry) (rest : List ℕ) (r : Passed) → judgedRequest l es rest ≡ accepted r → Accepted (request l) es rest r
+unfolding judgedRequest reasons
+request-inv l es rest r e = go (columnOf (l .method) (toTagged es)) refl
   where
     next : (c : Column) → columnOf (l .method) (toTagged es) ≡ some c → (o : Option Answer) → firstOf (reasons c l es rest) ≡ o
-        → Accepted l es rest r
+        → Accepted (request l) es rest r
     next c p none x =
-        let z : accepted (record { line = l; fields = es; body = bodyOf es rest }) ≡ accepted r = rw (p, judged, x) at e in
+        let z : accepted (passed (request l) es rest) ≡ accepted r = rw (p, judgedRequest, x) at e in
         let (_, x8) = none-first (reason7 l) (drop 1 (reasons c l es rest)) x in
         let (_, x9) = none-first (reason8 l) (drop 2 (reasons c l es rest)) x8 in
         let (n9, x10) = none-first (reason9 es) (drop 3 (reasons c l es rest)) x9 in
-        let (n10, _) = none-first (reason10 l es) (drop 4 (reasons c l es rest)) x10 in
-        record { made = cc; unrepeated = none-repeats es n9; formed = none-malformed l es n10 }
-    next c p (some a) x = let z : refused (replied l a) ≡ accepted r = rw (p, judged, x) at e in never (cc)
+        let (n10, _) = none-first (reason10 (l .method) es) (drop 4 (reasons c l es rest)) x10 in
+        record { made = cc; unrepeated = none-repeats es n9; formed = none-malformed (l .method) es n10 }
+    next c p (some a) x = not-both (rw (p, judgedRequest, x) at e)
 
-    go : (o : Option Column) → columnOf (l .method) (toTagged es) ≡ o → Accepted l es rest r
-    go none p = let z : refused (refusal 6 405 0 0) ≡ accepted r = rw (p, judged) at e in never (cc)
+    go : (o : Option Column) → columnOf (l .method) (toTagged es) ≡ o → Accepted (request l) es rest r
+    go none p = not-both (rw (p, judgedRequest) at e)
     go (some c) p = next c p (firstOf (reasons c l es rest)) refl
+
+response-inv :
+    (l : StatusLine) (es : List Entry) (rest : List ℕ) (r : Passed) → judgedResponse l es rest ≡ accepted r → Accepted (response l) es rest r
+unfolding judgedResponse responseReasons
+response-inv l es rest r e = go (within 100 699 (statusOf l)) (responseColumnOf l es) refl refl
+  where
+    method : List ℕ
+    method = firstCSeqMethod es
+
+    next : (c : Column) → within 100 699 (statusOf l) ≡ true → responseColumnOf l es ≡ some c
+        → (o : Option Answer) → firstOf (responseReasons c (firstCSeqMethod es) es rest) ≡ o → Accepted (response l) es rest r
+    next c t p none x =
+        let z : accepted (passed (response l) es rest) ≡ accepted r = rw (t, p, judgedResponse, x) at e in
+        let (n9, x10) = none-first (reason9 es) (drop 1 (responseReasons c (firstCSeqMethod es) es rest)) x in
+        let (n10, _) = none-first (reason10 (firstCSeqMethod es) es) (drop 2 (responseReasons c (firstCSeqMethod es) es rest)) x10 in
+        record { made = cc; unrepeated = none-repeats es n9; formed = none-malformed (firstCSeqMethod es) es n10 }
+    next c t p (some a) x = not-both (rw (t, p, judgedResponse, x) at e)
+
+    go : (t : Bool) (o : Option Column) → within 100 699 (statusOf l) ≡ t → responseColumnOf l es ≡ o → Accepted (response l) es rest r
+    go false o t p = not-both (rw (t, judgedResponse) at e)
+    go true none t p = not-both (rw (t, p, judgedResponse) at e)
+    go true (some c) t p = next c t p (firstOf (responseReasons c (firstCSeqMethod es) es rest)) refl
+
+pub judged-inv : (l : Start) (es : List Entry) (rest : List ℕ) (r : Passed) → judged l es rest ≡ accepted r → Accepted l es rest r
+judged-inv (request l) es rest r e = request-inv l es rest r e
+judged-inv (response l) es rest r e = response-inv l es rest r e
 
 -- ---- so each value is well formed
 

@@ -11,14 +11,13 @@ use Rattle.octets.specs.Classes.{isGap}
 use Rattle.sip.specs.declared.Span.{Span}
 use Rattle.octets.specs.Scans.{any}
 use Rattle.sip.specs.Lines.{Start, Header, folded, unfoldedAt}
-use Rattle.sip.specs.Profile.{columnOf}
 use Rattle.sip.specs.Values.{address, personSize, person, identity, isGlobal, isIdentity}
 use Rattle.sip.specs.Refusals.{Lines, lines, unread, read, refusal, valueOf, wellFormed}
-use Rattle.sip.specs.Refusals.{Request, Judgement, refused, accepted, judged, keptOf, judgement}
+use Rattle.sip.specs.Refusals.{Passed, Judgement, refused, accepted, judged, messageColumn, keptOf, judgement}
 use Rattle.sip.specs.Readings.{part, readingAt, reading, callerAt, callingNumber, callingAt, callingPart}
 use Rattle.sip.proofs.Tests.{never}
 use Rattle.sip.proofs.Unfolded.{unfolded-le, unfolded-part}
-use Rattle.sip.proofs.Accepted.{judged-inv, value-formed}
+use Rattle.sip.proofs.Accepted.{methodOf, judged-inv, value-formed}
 use Rattle.sip.proofs.Identities.{identity-inv}
 use Rattle.sip.proofs.Firsts.{kept-reading}
 
@@ -71,15 +70,15 @@ module _ (m : List ℕ) (p : Span) (v : List ℕ) (e : isIdentity v ≡ true) (q
 
 -- ---- the identity of an accepted message
 
-module _ (m : List ℕ) (l : Start) (h : Header) (e : lines m ≡ read l h) (r : Request) (a : judged l (keptOf l (h .fields)) (h .rest) ≡ accepted r) where
+module _ (m : List ℕ) (l : Start) (h : Header) (e : lines m ≡ read l h) (r : Passed) (a : judged l (keptOf l (h .fields)) (h .rest) ≡ accepted r) where
   identity-formed : (v : List ℕ) → valueOf 15 (keptOf l (h .fields)) ≡ some v → isIdentity v ≡ true
   unfolding wellFormed
-  identity-formed v q = value-formed (l .method) (keptOf l (h .fields)) 15 v (judged-inv l (keptOf l (h .fields)) (h .rest) r a .formed) q
+  identity-formed v q = value-formed (methodOf l (keptOf l (h .fields))) (keptOf l (h .fields)) 15 v (judged-inv l (keptOf l (h .fields)) (h .rest) r a .formed) q
 
 -- ---- the calling number
 
 caller-accepted :
-    (m : List ℕ) (r : Request) → judgement m ≡ accepted r → (v : List ℕ) → valueOf 15 (r .fields) ≡ some v
+    (m : List ℕ) (r : Passed) → judgement m ≡ accepted r → (v : List ℕ) → valueOf 15 (r .fields) ≡ some v
     → take (callerAt m (readingAt m 15 1) v .len) (drop (callerAt m (readingAt m 15 1) v .start) m) ≡ identity v
 unfolding judgement reading
 caller-accepted m r e v q = go (lines m) refl
@@ -89,13 +88,13 @@ caller-accepted m r e v q = go (lines m) refl
     go (read l h) p =
         let a : judged l (keptOf l (h .fields)) (h .rest) ≡ accepted r = rw p at e in
         let s : valueOf 15 (keptOf l (h .fields)) ≡ some v = rw (judged-inv l (keptOf l (h .fields)) (h .rest) r a .made) at q in
-        caller-part m (readingAt m 15 1) v (identity-formed m l h p r a v s) (kept-reading m l h p 15 (omega arith) (columnOf (l .method) false) v s)
+        caller-part m (readingAt m 15 1) v (identity-formed m l h p r a v s) (kept-reading m l h p 15 (omega arith) (messageColumn l (h .fields)) v s)
 
 pub calling-part : (m trunk : List ℕ) → callingPart m trunk ≡ callingNumber m trunk
 unfolding callingPart callingAt callingNumber callerAt
 calling-part m trunk = go (isGlobal trunk) refl
   where
-    from : (r : Request) → judgement m ≡ accepted r → (o : Option (List ℕ)) → valueOf 15 (r .fields) ≡ o → isGlobal trunk ≡ true
+    from : (r : Passed) → judgement m ≡ accepted r → (o : Option (List ℕ)) → valueOf 15 (r .fields) ≡ o → isGlobal trunk ≡ true
         → callingPart m trunk ≡ callingNumber m trunk
     from r a none q g = rw (g, a, q) (take-length trunk)
     from r a (some v) q g = rw (g, a, q) (caller-accepted m r a v q)

@@ -5,19 +5,21 @@ use mathlib.Core.List.{List, [], _∷_, _++_}
 use mathlib.Core.Option.{Option, none, some}
 use Prim.Native.Nat.{ℕ, _≤_}
 use native.Mathlib.Omega.{arith}
-use lib.Dec.{leb}
+use lib.Dec.{leb, eqb}
 use lib.ListN.{length, drop}
-use borrow.Author.Tests.{leb-true, le-leb}
-use Rattle.sip.specs.Lines.{Start, start, startSize, Field, Header, header}
-use Rattle.sip.specs.Profile.{columnOf, ignored}
+use borrow.Author.Tests.{leb-true, le-leb, eqb-true}
+use Rattle.sip.specs.Lines.{Start, request, response, start, startBytes, startSize, Field, Header, header}
+use Rattle.sip.specs.Profile.{rows, find, mark, numberOf, ignored}
 use Rattle.sip.specs.declared.Column.{Column}
-use Rattle.sip.specs.Refusals.{unread, read, lines, kept, judgement}
+use Rattle.sip.specs.declared.Column.the-variants.{Invite, Reinvite, Ack, Bye, Cancel, Options, InviteSuccess, CancelResponse, OtherResponse}
+use Rattle.sip.specs.Refusals.{unread, read, lines, kept, valueOf, firstCSeqMethod, responseColumnOf, messageColumn, keptOf, judgement}
 use Rattle.sip.specs.Screen.{screened}
-use Rattle.sip.specs.Change.{startBytes, StartShaped, AllShaped, none-left, one-more, headerBytes, Varied, no-fields, unchanged, added, renamed, Changed}
-use Rattle.sip.specs.Promises.{Demand3, ReadAs, Everything, NothingElse}
+use Rattle.sip.specs.Change.{StartShaped, AllShaped, none-left, one-more, headerBytes, Varied, no-fields, unchanged, added, renamed, Changed}
+use Rattle.sip.specs.Promises.{Demand3, SameColumn, ReadAs, Everything, NothingElse}
 use Rattle.sip.proofs.Headers.{header-bytes, header-here}
 use Rattle.sip.proofs.Starts.{start-rest, start-bytes, start-here}
 use Rattle.sip.proofs.Names.{listed-name}
+use Rattle.sip.proofs.Tests.{never}
 
 -- ---- the changed fields
 
@@ -35,6 +37,59 @@ varied-kept c no-fields = refl
 varied-kept c (unchanged v) = rw (varied-kept c v)
 varied-kept c (added w i v) = rw (i, varied-kept c v)
 varied-kept c (renamed l e v) = rw (e, varied-kept c v)
+
+-- a field more in front, under two names of one number
+listed-more : (n : ℕ) (name gap value : List ℕ) (f : Field) (fs gs : List Field) → numberOf name ≡ numberOf (f .name) → value ≡ f .value
+    → valueOf n (kept none gs) ≡ valueOf n (kept none fs)
+    → valueOf n (kept none (record { name = name; gap = gap; value = value } ∷ gs)) ≡ valueOf n (kept none (f ∷ fs))
+unfolding kept valueOf
+listed-more n name gap value f fs gs e w h = go (ignored none (numberOf (f .name))) (eqb (numberOf (f .name)) n) refl refl
+  where
+    go : (t u : Bool) → ignored none (numberOf (f .name)) ≡ t → eqb (numberOf (f .name)) n ≡ u
+        → valueOf n (kept none (record { name = name; gap = gap; value = value } ∷ gs)) ≡ valueOf n (kept none (f ∷ fs))
+    go true u p q = rw (e, p) h
+    go false true p q = rw (e, w, p, q)
+    go false false p q = rw (e, w, p, q) h
+
+-- a field that is not ignored has the same first value among all listed ones
+varied-first : (c : Option Column) (n : ℕ) → ignored c n ≡ false → {fs gs : List Field} → Varied (ignored c) fs gs
+    → valueOf n (kept none gs) ≡ valueOf n (kept none fs)
+unfolding kept valueOf
+varied-first c n k no-fields = refl
+varied-first c n k (unchanged {f = f} {fs = fs} {gs = gs} v) =
+    listed-more n (f .name) (f .gap) (f .value) f fs gs refl refl (varied-first c n k v)
+varied-first c n k (added {f = f} {fs = fs} {gs = gs} w i v) = go (ignored none (numberOf (f .name))) (eqb (numberOf (f .name)) n) refl refl (varied-first c n k v)
+  where
+    go : (t u : Bool) → ignored none (numberOf (f .name)) ≡ t → eqb (numberOf (f .name)) n ≡ u
+        → valueOf n (kept none gs) ≡ valueOf n (kept none fs) → valueOf n (kept none (f ∷ gs)) ≡ valueOf n (kept none fs)
+    go true u p q h = rw p h
+    go false true p q h = let z : ignored c n ≡ true = rw (eqb-true (numberOf (f .name)) n q) at i in never (cc)
+    go false false p q h = rw (p, q) h
+varied-first c n k (renamed {f = f} {n = name} {fs = fs} {gs = gs} l e v) =
+    listed-more n name (f .gap) (f .value) f fs gs e refl (varied-first c n k v)
+
+-- CSeq is kept everywhere, so that a change leaves a response its method, and its column
+cseq-column : (c : Column) → ignored (some c) 6 ≡ false
+unfolding ignored mark find rows
+cseq-column Invite = refl
+cseq-column Reinvite = refl
+cseq-column Ack = refl
+cseq-column Bye = refl
+cseq-column Cancel = refl
+cseq-column Options = refl
+cseq-column InviteSuccess = refl
+cseq-column CancelResponse = refl
+cseq-column OtherResponse = refl
+
+pub cseq-kept : (c : Option Column) → ignored c 6 ≡ false
+unfolding ignored
+cseq-kept none = refl
+cseq-kept (some c) = cseq-column c
+
+varied-column : (l : Start) (fs gs : List Field) → Varied (ignored (messageColumn l fs)) fs gs → messageColumn l gs ≡ messageColumn l fs
+unfolding responseColumnOf firstCSeqMethod
+varied-column (request l) fs gs v = refl
+varied-column (response l) fs gs v = rw (varied-first (messageColumn (response l) fs) 6 (cseq-kept (messageColumn (response l) fs)) v)
 
 varied-same : (p : ℕ → Bool) (fs : List Field) → Varied p fs fs
 varied-same p [] = no-fields
@@ -62,9 +117,16 @@ nothing-else m m′ c =
 
 -- ---- and are judged alike
 
+pub same-column : SameColumn
+same-column m m′ c = varied-column (c .line) (c .fields) (c .fields′) (c .varied)
+
 alike : (m m′ : List ℕ) → Changed m m′ → judgement m′ ≡ judgement m
 unfolding judgement
-alike m m′ c = let r = nothing-else m m′ c in rw (r .original-reads, r .changed-reads, varied-kept (columnOf (c .line .method) false) (c .varied))
+alike m m′ c =
+    let r = nothing-else m m′ c in
+    let k : keptOf (c .line) (c .fields′) ≡ keptOf (c .line) (c .fields)
+    = rw (same-column m m′ c) (varied-kept (messageColumn (c .line) (c .fields)) (c .varied)) in
+    rw (r .original-reads, r .changed-reads, k)
 
 pub demand3 : Demand3
 unfolding screened
@@ -96,7 +158,7 @@ everything m l h e = go (leb (length m) 8192) (start m) refl refl
                 rest = h .rest;
                 start-shaped = s .shaped;
                 all-shaped = a .shaped;
-                varied = varied-same (ignored (columnOf (l .method) false)) (h .fields);
+                varied = varied-same (ignored (messageColumn l (h .fields))) (h .fields);
                 original = whole;
                 changed = whole;
                 within-bytes = b;

@@ -11,13 +11,14 @@ use borrow.Author.Tests.{eqb-true, ne-eqb}
 use Rattle.octets.specs.Classes.{isGap}
 use Rattle.sip.specs.declared.Column.{Column}
 use Rattle.sip.specs.declared.Span.{Span}
-use Rattle.sip.specs.Lines.{Start, startSize, Header, Field, bytes, folded, trim, canonical}
+use Rattle.sip.specs.Lines.{StatusLine, Start, response, startSize, Header, Field, bytes, folded, trim, canonical}
 use Rattle.sip.specs.Profile.{numberOf, ignored}
-use Rattle.sip.specs.Refusals.{lines, read, kept, valueOf}
+use Rattle.sip.specs.Refusals.{lines, read, kept, valueOf, firstCSeqMethod, responseColumnOf, messageColumn, keptOf}
 use Rattle.sip.specs.Readings.{noSpan, part, valueSpan, valueSpans, spans, place, readingAt, reading}
 use Rattle.sip.specs.Change.{headerBytes}
 use Rattle.sip.proofs.Tests.{never}
 use Rattle.sip.proofs.Canonical.{canonical-core}
+use Rattle.sip.proofs.Change.{cseq-kept}
 use Rattle.sip.proofs.Spans.{value-part, next-here, read-parts}
 
 -- a field, and the place where it starts
@@ -107,6 +108,15 @@ module _ (c : Option Column) (n : ℕ) where
       go true false p q h = rw (p, q) h
       go false true p q h = rw (p, q)
       go false false p q h = rw (p, q) h
+
+-- ---- the column of a response is one: by its first CSeq among all listed fields, and among those that it keeps
+
+pub method-kept : (c : Option Column) (fs : List Field) → valueOf 6 (kept c fs) ≡ valueOf 6 (kept none fs)
+method-kept c fs = kept-first c 6 (cseq-kept c) 0 fs ∙ sym (kept-first none 6 (cseq-kept none) 0 fs)
+
+pub column-once : (l : StatusLine) (fs : List Field) → responseColumnOf l (keptOf (response l) fs) ≡ messageColumn (response l) fs
+unfolding responseColumnOf firstCSeqMethod
+column-once l fs = rw (method-kept (messageColumn (response l) fs) fs)
 
 -- ---- what is kept is what is read
 

@@ -1,5 +1,6 @@
 pub mod Tests
 pub mod Texts
+pub mod Methods
 pub mod ValueSizes
 pub mod Fields
 pub mod Starts
@@ -20,6 +21,7 @@ pub mod Unfolded
 pub mod Spans
 pub mod Within
 pub mod Firsts
+pub mod Responses
 pub mod Addresses
 pub mod Identities
 pub mod Tags

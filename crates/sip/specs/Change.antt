@@ -1,22 +1,20 @@
--- Document 01, "What demand 3 compares".
+-- Document 01, "What demand 3 compares", for requests and (CR 1) responses.
 use mathlib.Core.Path.{_≡_}
-use mathlib.Core.Bool.{Bool, true, false}
+use mathlib.Core.Bool.{Bool, true}
 use mathlib.Core.List.{List, [], _∷_, _++_}
 use mathlib.Core.Option.{some}
 use Prim.Native.Nat.{ℕ, _≤_, _<_}
 use lib.ListN.{length}
-use Rattle.octets.specs.Classes.{isToken, isBlank, isVisible}
+use Rattle.octets.specs.Classes.{isToken, isDigit, isBlank, isValue, isVisible}
 use Rattle.octets.specs.Scans.{all}
-use Rattle.sip.specs.Lines.{Start, isVersion, valueSize, Field, crlf, bytes}
-use Rattle.sip.specs.Profile.{numberOf, columnOf, ignored}
+use Rattle.sip.specs.Lines.{RequestLine, StatusLine, Start, request, response, isVersion, isVersionFirst, startBytes, valueSize, Field}
+use Rattle.sip.specs.Lines.{crlf, bytes}
+use Rattle.sip.specs.Profile.{numberOf, ignored}
+use Rattle.sip.specs.Refusals.{messageColumn}
 
 -- "Lines are well shaped where the start line, every field and the empty line are as under Lines."
 
--- the bytes of a start line: method, space, Request-URI, and the space, version and CRLF as they stand
-abbrev pub startBytes : Start → List ℕ → List ℕ
-startBytes l version = l .method ++ 32 ∷ (l .uri ++ version)
-
-pub record StartShaped (l : Start) (version : List ℕ) : Type 0 where
+pub record RequestShaped (l : RequestLine) (version : List ℕ) : Type 0 where
   pub method-long : 0 < length (l .method)
   pub method-short : length (l .method) ≤ 32
   pub method-token : all isToken (l .method) ≡ true
@@ -24,6 +22,16 @@ pub record StartShaped (l : Start) (version : List ℕ) : Type 0 where
   pub uri-short : length (l .uri) ≤ 256
   pub uri-visible : all isVisible (l .uri) ≡ true
   pub version-written : isVersion version ≡ true
+
+pub record StatusShaped (l : StatusLine) (version : List ℕ) : Type 0 where
+  pub version-written : isVersionFirst version ≡ true
+  pub code-long : length (l .code) ≡ 3
+  pub code-digits : all isDigit (l .code) ≡ true
+  pub phrase-values : all isValue (l .phrase) ≡ true
+
+abbrev pub StartShaped : Start → List ℕ → Type 0
+StartShaped (request l) version = RequestShaped l version
+StartShaped (response l) version = StatusShaped l version
 
 pub record WellShaped (f : Field) : Type 0 where
   pub name-long : 0 < length (f .name)
@@ -52,6 +60,8 @@ pub data Varied (isIgnored : ℕ → Bool) : List Field → List Field → Type 
       {f : Field} {n : List ℕ} {fs gs : List Field} → 0 < numberOf (f .name) → numberOf n ≡ numberOf (f .name)
       → Varied isIgnored fs gs → Varied isIgnored (f ∷ fs) (record { name = n; gap = f .gap; value = f .value } ∷ gs)
 
+-- The ignored fields are those of the message's column. Where a response has a status for reason 17 it is still the column that its first
+-- CSeq names; where that names none, as where a request's method has no column, names not listed are ignored.
 -- "The changed message is the original's start line, its whole fields in their order with the added ones anywhere among them, then the
 -- original's empty line and all bytes after it." m is the original, m′ the changed message
 pub record Changed (m m′ : List ℕ) : Type 0 where
@@ -62,7 +72,7 @@ pub record Changed (m m′ : List ℕ) : Type 0 where
   pub rest : List ℕ
   pub start-shaped : StartShaped line version
   pub all-shaped : AllShaped fields
-  pub varied : Varied (ignored (columnOf (line .method) false)) fields fields′
+  pub varied : Varied (ignored (messageColumn line fields)) fields fields′
   pub original : m ≡ startBytes line version ++ headerBytes fields rest
   pub changed : m′ ≡ startBytes line version ++ headerBytes fields′ rest
   pub within-bytes : length m ≤ 8192

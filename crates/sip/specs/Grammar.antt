@@ -69,7 +69,8 @@ pub record ContentLength (v : List ℕ) : Type 0 where
   pub digits : Each isDigit v
   pub long : Long 1 5 v
 
--- ---- "CSeq: 1 to 10 digits, below 2,147,483,648, then one or more spaces or tabs, then the method of the start line."
+-- ---- "CSeq: 1 to 10 digits, below 2,147,483,648, then one or more spaces or tabs, then the method of the start line." CR 1,
+-- of a response: "The method is the token that ends the CSeq value."
 
 pub data CSeq (method : List ℕ) : List ℕ → Type 0 where
   cseq-of :

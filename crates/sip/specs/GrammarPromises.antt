@@ -1,19 +1,22 @@
--- The promises over the grammar, as statements; their proofs are in proofs/Grammar/. Each holds for every list of bytes (`FieldRead` for
--- every method that is a token): a value is accepted exactly if the grammar derives it, what is found in it is the derivation's part, and no
--- two derivations of a value give it different parts. These are the tests that `Refusals.antt` asks of a message: `otherScheme`, `isUri`
--- and `isCalled` of its Request-URI (reasons 7, 8 and 15), `wellFormed` of the canonical value of each kept field, with the method of the
--- start line (reason 10), `isTagged` of To ("re"), `holdsId` of a Privacy that is not ignored, `isLacking` of each required tag (reason 14).
+-- The promises over the grammar, as statements; their proofs are in proofs/Grammar/. Each holds for every list of bytes (`FieldRead` and
+-- `CSeqMethodRead` for every method that is a token): a value is accepted exactly if the grammar derives it, what is found in it is the
+-- derivation's part, and no two derivations of a value give it different parts. These are the tests that `Refusals.antt` asks of a
+-- message: `otherScheme`, `isUri` and `isCalled` of its Request-URI (reasons 7, 8 and 15), `wellFormed` of the canonical value of each
+-- kept field, with the method of the message (reason 10), `cseqMethod` of the first CSeq of a response (reason 6), `isTagged` of To
+-- ("re"), `holdsId` of a Privacy that is not ignored, `isLacking` of each required tag (reason 14).
 use mathlib.Core.Path.{_≡_}
 use mathlib.Core.Bool.{true, cond}
 use mathlib.Core.List.{List, [], _∷_}
 use mathlib.Core.Logic.{_↔_}
+use mathlib.Core.Option.{some}
 use Prim.Native.Nat.{ℕ}
 use Rattle.octets.specs.Classes.{text}
-use Rattle.sip.specs.Values.{uri, person, isTo, isTagged, isFrom, tagOf, isIdentity, identity, tokens, listOr, isPrivacy, holdsId, isRequire}
+use Rattle.sip.specs.declared.Column.{Column}
+use Rattle.sip.specs.Values.{cseqMethod, uri, person, isTo, isTagged, isFrom, tagOf, isIdentity, identity, tokens, listOr, isPrivacy, holdsId, isRequire}
 use Rattle.sip.specs.Values.{requiredTags, isLacking, isCalled}
-use Rattle.sip.specs.Lines.{Start, Header}
-use Rattle.sip.specs.Refusals.{lines, read, otherScheme, isUri, wellFormed}
-use Rattle.sip.specs.Grammar.{Token, Tokens, HasToken, OurOptionTag, UriParts, Uri, personOf, Party, Identity, Called, OtherScheme, Formed}
+use Rattle.sip.specs.Lines.{RequestLine, StatusLine, request, Header}
+use Rattle.sip.specs.Refusals.{lines, read, Entry, otherScheme, isUri, wellFormed, firstCSeqMethod, responseColumnOf}
+use Rattle.sip.specs.Grammar.{Token, Tokens, HasToken, OurOptionTag, CSeq, UriParts, Uri, personOf, Party, Identity, Called, OtherScheme, Formed}
 
 -- ---- Request-URI
 
@@ -92,6 +95,18 @@ LackingRead = (t : List ℕ) → (isLacking t ≡ true) ↔ (OurOptionTag t → 
 abbrev pub FieldRead : Type 0
 FieldRead = (method : List ℕ) → Token method → (k : ℕ) (v : List ℕ) → (wellFormed method k v ≡ true) ↔ Formed method k v
 
--- the method of the start line is a token in every message whose lines read
+-- the method of a request is a token in every message whose lines read
 abbrev pub MethodToken : Type 0
-MethodToken = (m : List ℕ) (l : Start) (h : Header) → lines m ≡ read l h → Token (l .method)
+MethodToken = (m : List ℕ) (l : RequestLine) (h : Header) → lines m ≡ read (request l) h → Token (l .method)
+
+-- CR 1: the method of a response is a token wherever it has a column
+abbrev pub ResponseMethodToken : Type 0
+ResponseMethodToken = (l : StatusLine) (es : List Entry) (c : Column) → responseColumnOf l es ≡ some c → Token (firstCSeqMethod es)
+
+-- CR 1: a value names the method exactly if the grammar derives it as a CSeq with this method
+abbrev pub CSeqMethodRead : Type 0
+CSeqMethodRead = (method v : List ℕ) → Token method → (cseqMethod v ≡ method) ↔ CSeq method v
+
+-- CR 1: a value names none, and is malformed, exactly if the grammar derives it as a CSeq with no token
+abbrev pub NoCSeqMethodRead : Type 0
+NoCSeqMethodRead = (v : List ℕ) → (cseqMethod v ≡ []) ↔ ((method : List ℕ) → Token method → CSeq method v → ⊥)

@@ -8,5 +8,6 @@ pub mod Change
 pub mod Readings
 pub mod Promises
 pub mod Starred
+pub mod Responses
 pub mod Grammar
 pub mod GrammarPromises

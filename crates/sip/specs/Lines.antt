@@ -1,11 +1,11 @@
--- Document 01, "Lines".
+-- Document 01, "Lines", and the status line of CR 1.
 use mathlib.Core.Bool.{Bool, false, not, cond, _&&_}
 use mathlib.Core.List.{List, [], _∷_, _++_}
 use mathlib.Core.Option.{Option, none, some}
 use Prim.Native.Nat.{ℕ, zero, suc, _+_, _-_}
 use lib.Dec.{eqb, ltb}
 use lib.ListN.{length, take, drop}
-use Rattle.octets.specs.Classes.{text, within, isToken, isBlank, isBreak, isGap, isValue, isVisible}
+use Rattle.octets.specs.Classes.{text, within, isToken, isDigit, isBlank, isBreak, isGap, isValue, isVisible}
 use Rattle.octets.specs.Scans.{run, any, starts, sameText}
 
 abbrev pub crlf : List ℕ
@@ -14,7 +14,7 @@ crlf = 13 ∷ 10 ∷ []
 -- ---- "Start line: method (token, 1 to 32 bytes), one space, Request-URI (1 to 256 bytes, each 33 to 126), one space, `SIP/2.0`
 -- (letters in either case, written in capitals), CRLF."
 
-pub record Start : Type 0 where
+pub record RequestLine : Type 0 where
   pub method : List ℕ
   pub uri : List ℕ
 
@@ -22,25 +22,66 @@ pub record Start : Type 0 where
 unfoldable pub isVersion : List ℕ → Bool
 isVersion s = sameText (text " SIP/2.0\r\n") s
 
--- the start line at the front of a message; none where its shape is bad
-unfoldable pub start : List ℕ → Option Start
-start s =
+-- the request line at the front of a message; none where its shape is bad
+unfoldable pub requestLine : List ℕ → Option RequestLine
+requestLine s =
     let m = run isToken s in
     let u = run isVisible (drop (m + 1) s) in
-    let found : Option Start = some (record { method = take m s; uri = take u (drop (m + 1) s) }) in
+    let found : Option RequestLine = some (record { method = take m s; uri = take u (drop (m + 1) s) }) in
     cond (within 1 32 m && (starts 32 (drop m s) && (within 1 256 u && isVersion (take 10 (drop (m + 1 + u) s))))) found none
 
--- the bytes of the start line: method, space, Request-URI, and the ten of `isVersion`
-abbrev pub startSize : Start → ℕ
-startSize l = length (l .method) + 1 + length (l .uri) + 10
+-- ---- CR 1: "`SIP/2.0` as before, a space, three digits, a space, a phrase of value bytes (maybe none), CRLF."
 
--- ---- "Field: name (token), any spaces or tabs, colon, value, CRLF."
+-- RFC 3261's Status-Code and Reason-Phrase
+pub record StatusLine : Type 0 where
+  pub code : List ℕ
+  pub phrase : List ℕ
+
+-- `SIP/2.0` in either case, and a space
+unfoldable pub isVersionFirst : List ℕ → Bool
+isVersionFirst s = sameText (text "SIP/2.0 ") s
 
 -- a CRLF stands at the front
 unfoldable pub startsCRLF : List ℕ → Bool
 startsCRLF [] = false
 startsCRLF (a ∷ []) = false
 startsCRLF (a ∷ b ∷ s) = eqb a 13 && eqb b 10
+
+-- the status line at the front of a message; none where its shape is bad
+unfoldable pub statusLine : List ℕ → Option StatusLine
+statusLine s =
+    let c = run isDigit (drop 8 s) in
+    let p = run isValue (drop 12 s) in
+    let found : Option StatusLine = some (record { code = take 3 (drop 8 s); phrase = take p (drop 12 s) }) in
+    cond (isVersionFirst (take 8 s) && (eqb c 3 && (starts 32 (drop 11 s) && startsCRLF (drop (12 + p) s)))) found none
+
+-- ---- the start line of a request or of a response
+
+pub data Start : Type 0 where
+  request : RequestLine → Start
+  response : StatusLine → Start
+
+abbrev pub startOf : Option RequestLine → Option StatusLine → Option Start
+startOf (some l) a = some (request l)
+startOf none (some a) = some (response a)
+startOf none none = none
+
+-- the start line at the front of a message; none where its shape is bad. No text is both: a method holds no `/`
+unfoldable pub start : List ℕ → Option Start
+start s = startOf (requestLine s) (statusLine s)
+
+-- the bytes of a start line. `version` are the ten bytes, a space, `SIP/2.0` and CRLF, that end a request line, or the eight bytes,
+-- `SIP/2.0` and a space, that begin a status line, in the letters that they have
+abbrev pub startBytes : Start → List ℕ → List ℕ
+startBytes (request l) version = l .method ++ 32 ∷ (l .uri ++ version)
+startBytes (response l) version = version ++ (l .code ++ 32 ∷ (l .phrase ++ crlf))
+
+-- how many they are
+abbrev pub startSize : Start → ℕ
+startSize (request l) = length (l .method) + 1 + length (l .uri) + 10
+startSize (response l) = 8 + length (l .code) + 1 + length (l .phrase) + 2
+
+-- ---- "Field: name (token), any spaces or tabs, colon, value, CRLF."
 
 -- a space or tab stands at the front
 unfoldable pub startsBlank : List ℕ → Bool

@@ -1,4 +1,4 @@
--- Document 01, "The outgoing message".
+-- Document 01, "The outgoing message", of requests and (CR 1) responses.
 use mathlib.Core.Bool.{Bool, cond, _&&_}
 use mathlib.Core.List.{List, [], _∷_, _++_}
 use Prim.Native.Nat.{ℕ, zero, suc, _+_, _-_, _/_, _%_}
@@ -6,10 +6,10 @@ use lib.Dec.{ltb, eqb}
 use lib.ListN.{length}
 use Rattle.octets.specs.Classes.{text}
 use Rattle.octets.specs.Scans.{decimal}
-use Rattle.sip.specs.Lines.{Start, crlf}
+use Rattle.sip.specs.Lines.{Start, request, response, startBytes, crlf}
 use Rattle.sip.specs.Profile.{nameOf}
 use Rattle.sip.specs.Values.{tagOf}
-use Rattle.sip.specs.Refusals.{Entry, Request}
+use Rattle.sip.specs.Refusals.{Entry, Passed}
 
 -- a number's digits "without leading zeros", k of them at most
 unfoldable pub digits : ℕ → ℕ → List ℕ
@@ -22,7 +22,13 @@ numeral n = digits 5 n
 
 -- the start line as it goes out: "`SIP/2.0` (letters in either case, written in capitals)"
 unfoldable pub startLine : Start → List ℕ
-startLine l = l .method ++ 32 ∷ (l .uri ++ text " SIP/2.0\r\n")
+startLine (request l) = startBytes (request l) (text " SIP/2.0\r\n")
+startLine (response l) = startBytes (response l) (text "SIP/2.0 ")
+
+-- how many bytes of a start line stand before its version: the writer copies the line and writes the version over it
+abbrev pub beforeVersion : Start → ℕ
+beforeVersion (request l) = length (l .method) + 1 + length (l .uri) + 1
+beforeVersion (response l) = 0
 
 -- "From's value is `"Anonymous" <sip:anonymous@anonymous.invalid>;tag=` and the old tag"
 unfoldable pub anonymous : List ℕ
@@ -48,5 +54,5 @@ fieldLines masked body (e ∷ es) =
     cond (masked && eqb (e .number) 15) others (line (e .number) (sentValue masked body e) ++ others)
 
 -- "Start line, then the fields .., then the empty line and the body." Masked: "On side 1 with the caller withheld"
-unfoldable pub output : Bool → Request → List ℕ
+unfoldable pub output : Bool → Passed → List ℕ
 output masked r = startLine (r .line) ++ (fieldLines masked (length (r .body)) (r .fields) ++ (crlf ++ r .body))

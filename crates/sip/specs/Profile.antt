@@ -1,4 +1,4 @@
--- Document 01, "The profile".
+-- Document 01, "The profile", and the columns of CR 1 for responses.
 use mathlib.Core.Bool.{Bool, true, false, not, cond, _||_}
 use mathlib.Core.List.{List, [], _∷_, map}
 use mathlib.Core.Option.{Option, none, some}
@@ -8,7 +8,7 @@ use lib.Dec.{eqb}
 use Rattle.octets.specs.Classes.{text}
 use Rattle.octets.specs.Scans.{same, sameText}
 use Rattle.sip.specs.declared.Column.{Column}
-use Rattle.sip.specs.declared.Column.the-variants.{Invite, Reinvite, Ack, Bye, Cancel, Options}
+use Rattle.sip.specs.declared.Column.the-variants.{Invite, Reinvite, Ack, Bye, Cancel, Options, InviteSuccess, CancelResponse, OtherResponse}
 
 -- "M mandatory, S supported, B mandatory if the body after cutting is not empty, - ignored": I stands for -
 pub data Mark : Type 0 where
@@ -24,6 +24,9 @@ pub record Row : Type 0 where
   pub bye : Mark
   pub cancel : Mark
   pub options : Mark
+  pub inviteSuccess : Mark
+  pub cancelResponse : Mark
+  pub otherResponse : Mark
   pub repeats : Bool
 
 abbrev yes : Bool
@@ -35,31 +38,48 @@ no = false
 abbrev short : String → Option (List ℕ)
 short c = some (text c)
 
-abbrev row : ℕ → String → Option (List ℕ) → Mark → Mark → Mark → Mark → Mark → Mark → Bool → Row
-row n name c i r a b k o again =
-    record { number = n; name = text name; compact = c; invite = i; re = r; ack = a; bye = b; cancel = k; options = o; repeats = again }
+abbrev row : ℕ → String → Option (List ℕ) → Mark → Mark → Mark → Mark → Mark → Mark → Mark → Mark → Mark → Bool → Row
+row n name c i r a b k o success cancelled other again =
+    record {
+      number = n;
+      name = text name;
+      compact = c;
+      invite = i;
+      re = r;
+      ack = a;
+      bye = b;
+      cancel = k;
+      options = o;
+      inviteSuccess = success;
+      cancelResponse = cancelled;
+      otherResponse = other;
+      repeats = again;
+    }
 
--- the table: No, Field, compact form, INVITE, re, ACK, BYE, CANCEL, OPTIONS, Repeats
+-- the table: No, Field, compact form, INVITE, re, ACK, BYE, CANCEL, OPTIONS; of responses those to an INVITE "from 200 to 299", those to a
+-- CANCEL, all others; Repeats. Of responses CR 1 says: "Call-ID, CSeq, From, To and Via are mandatory, Content-Length supported; for
+-- CANCEL that is all .. For the other methods add Content-Type (B), Contact, Allow, Supported, Require, Record-Route, Reason and Accept
+-- as supported; for INVITE, Contact is mandatory from 200 to 299. All other fields, Max-Forwards too, are ignored"
 unfoldable pub rows : List Row
 rows =
-    row 1 "Via" (short "v") M M M M M M yes
-    ∷ row 2 "Max-Forwards" none M M M M M M no
-    ∷ row 3 "From" (short "f") M M M M M M no
-    ∷ row 4 "To" (short "t") M M M M M M no
-    ∷ row 5 "Call-ID" (short "i") M M M M M M no
-    ∷ row 6 "CSeq" none M M M M M M no
-    ∷ row 7 "Contact" (short "m") M M S I I S no
-    ∷ row 8 "Content-Length" (short "l") S S S S S S no
-    ∷ row 9 "Content-Type" (short "c") B B B B I B no
-    ∷ row 10 "Route" none S S S S S S yes
-    ∷ row 11 "Reason" none I I I S S I yes
-    ∷ row 12 "Allow" none M S I S I S yes
-    ∷ row 13 "Supported" (short "k") S S I S I S yes
-    ∷ row 14 "Require" none S S I S I S yes
-    ∷ row 15 "P-Asserted-Identity" none M S I I I I no
-    ∷ row 16 "Privacy" none S S I I I I no
-    ∷ row 17 "Accept" none S S I I I S yes
-    ∷ row 18 "Record-Route" none S S I I I I yes
+    row 1 "Via" (short "v") M M M M M M M M M yes
+    ∷ row 2 "Max-Forwards" none M M M M M M I I I no
+    ∷ row 3 "From" (short "f") M M M M M M M M M no
+    ∷ row 4 "To" (short "t") M M M M M M M M M no
+    ∷ row 5 "Call-ID" (short "i") M M M M M M M M M no
+    ∷ row 6 "CSeq" none M M M M M M M M M no
+    ∷ row 7 "Contact" (short "m") M M S I I S M I S no
+    ∷ row 8 "Content-Length" (short "l") S S S S S S S S S no
+    ∷ row 9 "Content-Type" (short "c") B B B B I B B I B no
+    ∷ row 10 "Route" none S S S S S S I I I yes
+    ∷ row 11 "Reason" none I I I S S I S I S yes
+    ∷ row 12 "Allow" none M S I S I S S I S yes
+    ∷ row 13 "Supported" (short "k") S S I S I S S I S yes
+    ∷ row 14 "Require" none S S I S I S S I S yes
+    ∷ row 15 "P-Asserted-Identity" none M S I I I I I I I no
+    ∷ row 16 "Privacy" none S S I I I I I I I no
+    ∷ row 17 "Accept" none S S I I I S S I S yes
+    ∷ row 18 "Record-Route" none S S I I I I S I S yes
     ∷ []
 
 -- ---- "Names match in any letter case, whole, in long or compact form."
@@ -100,6 +120,9 @@ markIn Ack r = r .ack
 markIn Bye r = r .bye
 markIn Cancel r = r .cancel
 markIn Options r = r .options
+markIn InviteSuccess r = r .inviteSuccess
+markIn CancelResponse r = r .cancelResponse
+markIn OtherResponse r = r .otherResponse
 
 -- the mark of a number in a column; "Names not listed are ignored too."
 unfoldable pub mark : Column → ℕ → Mark
@@ -115,6 +138,14 @@ columnOf m tagged =
     (cond (same (text "BYE") m) (some Bye)
     (cond (same (text "CANCEL") m) (some Cancel)
     (cond (same (text "OPTIONS") m) (some Options) none))))
+
+-- CR 1: the column of a response to that method; `success`: its status is from 200 to 299. "an unknown method (here ACK too)" has none
+unfoldable pub responseColumn : Bool → List ℕ → Option Column
+responseColumn success m =
+    cond (same (text "INVITE") m) (some (cond success InviteSuccess OtherResponse))
+    (cond (same (text "BYE") m) (some OtherResponse)
+    (cond (same (text "CANCEL") m) (some CancelResponse)
+    (cond (same (text "OPTIONS") m) (some OtherResponse) none)))
 
 -- "A field is ignored for a method where its row has `-` in that column, or where its name is not listed"
 abbrev pub isIgnored : Mark → Bool

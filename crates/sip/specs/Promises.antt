@@ -1,19 +1,30 @@
 -- The large promises over the definitions, as statements; their proofs are in proofs/.
 use mathlib.Core.Path.{_≡_}
-use mathlib.Core.Bool.{Bool}
+use mathlib.Core.Bool.{Bool, true}
 use mathlib.Core.List.{List}
+use mathlib.Core.Option.{some}
 use Prim.Native.Nat.{ℕ, _+_, _<_}
 use lib.ListN.{length}
-use Rattle.sip.specs.Lines.{Start, Header}
-use Rattle.sip.specs.Refusals.{Answer, lines, read, Request, judgement, accepted}
+use Rattle.sip.specs.Lines.{RequestLine, StatusLine, requestLine, statusLine, Start, response, start, Header}
+use Rattle.sip.specs.Refusals.{Answer, lines, read, Passed, messageColumn, judgement, accepted}
+use Rattle.sip.specs.Values.{isGlobal}
 use Rattle.sip.specs.Output.{output}
 use Rattle.sip.specs.Screen.{screened}
+use Rattle.sip.specs.Readings.{callingNumber}
 use Rattle.sip.specs.Change.{Changed}
+
+-- CR 1: a start line is a request line or a status line (RFC 3261, start-line), and no text is both
+abbrev pub OneKind : Type 0
+OneKind = (s : List ℕ) (l : RequestLine) (a : StatusLine) → requestLine s ≡ some l → statusLine s ≡ some a → ⊥
 
 -- Demand 3: "Inserting any number of well-shaped ignored fields anywhere, and writing listed names in long or compact form and any case,
 -- changes nothing: not the answer, not one byte of the buffer."
 abbrev pub Demand3 : Type 0
 Demand3 = (m m′ : List ℕ) (side : ℕ) (buffer : List ℕ) → Changed m m′ → screened m′ side buffer ≡ screened m side buffer
+
+-- CR 1: a change cannot move the column by which fields are ignored: the changed message has the original's
+abbrev pub SameColumn : Type 0
+SameColumn = (m m′ : List ℕ) (c : Changed m m′) → messageColumn (c .line) (c .fields′) ≡ messageColumn (c .line) (c .fields)
 
 -- Nothing is left out of demand 3: a message that reads is the original of a change, with the lines that are read
 pub record ReadAs (m : List ℕ) (l : Start) (h : Header) : Type 0 where
@@ -33,9 +44,23 @@ pub record BothRead (m m′ : List ℕ) (c : Changed m m′) : Type 0 where
 abbrev pub NothingElse : Type 0
 NothingElse = (m m′ : List ℕ) (c : Changed m m′) → BothRead m m′ c
 
+-- CR 1, of responses: "reply always 0"
+abbrev pub NoReply : Type 0
+NoReply = (m : List ℕ) (l : StatusLine) → start m ≡ some (response l) → (side : ℕ) (buffer : List ℕ) → screened m side buffer .answer .reply ≡ 0
+
+-- CR 1, of responses: "nothing is made anonymous": what goes to side 1 is what goes to side 0
+abbrev pub NothingAnonymous : Type 0
+NothingAnonymous = (m : List ℕ) (l : StatusLine) → start m ≡ some (response l) → (buffer : List ℕ) → screened m 1 buffer ≡ screened m 0 buffer
+
+-- CR 1: the calling number of an accepted response is the trunk number, since its P-Asserted-Identity is ignored
+abbrev pub ResponseCalling : Type 0
+ResponseCalling =
+    (m trunk : List ℕ) (l : StatusLine) (r : Passed) → start m ≡ some (response l) → judgement m ≡ accepted r → isGlobal trunk ≡ true
+    → callingNumber m trunk ≡ trunk
+
 -- "The output is always fewer than 1,024 bytes longer than the message."
 abbrev pub Growth : Type 0
-Growth = (m : List ℕ) (r : Request) (masked : Bool) → judgement m ≡ accepted r → length (output masked r) < length m + 1024
+Growth = (m : List ℕ) (r : Passed) (masked : Bool) → judgement m ≡ accepted r → length (output masked r) < length m + 1024
 
 -- ---- "Useless versions: one that refuses everything, one fixed answer, and one that leaves the buffer untouched"
 

@@ -1,4 +1,4 @@
--- Document 01, "Fields and the calling number".
+-- Document 01, "Fields and the calling number", for requests and (CR 1) responses.
 use mathlib.Core.Bool.{true, false, cond}
 use mathlib.Core.List.{List, [], _∷_}
 use mathlib.Core.Option.{Option, none, some}
@@ -74,6 +74,7 @@ callerOf trunk (accepted r) = identityOr trunk (valueOf 15 (r .fields))
 
 -- "the P-Asserted-Identity digits with their `+` where the message has that field not ignored, else the trunk number .. It is empty
 -- instead exactly if the trunk number lacks the P-Asserted-Identity form or the message has a reason of 2 to 15 on side 0."
+-- CR 1: "At 17 the calling number is empty."
 unfoldable pub callingNumber : List ℕ → List ℕ → List ℕ
 callingNumber m trunk = cond (isGlobal trunk) (callerOf trunk (judgement m)) []
 

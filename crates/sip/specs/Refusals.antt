@@ -1,17 +1,17 @@
--- Document 01, "Refusal numbers, first that applies".
+-- Document 01, "Refusal numbers, first that applies", and those of CR 1 for responses.
 use mathlib.Core.Bool.{Bool, true, false, not, cond, _&&_, _||_}
 use mathlib.Core.List.{List, [], _∷_, _++_}
 use mathlib.Core.Option.{Option, none, some}
 use Prim.Native.Nat.{ℕ}
 use lib.Dec.{leb, ltb, eqb}
 use lib.ListN.{length, take, drop}
-use Rattle.octets.specs.Classes.{text, among, isToken}
+use Rattle.octets.specs.Classes.{text, within, among, isToken}
 use Rattle.octets.specs.Scans.{run, all, decimal, same, sameText}
 use Rattle.sip.specs.declared.Column.{Column}
-use Rattle.sip.specs.declared.Column.the-variants.{Invite, Reinvite, Ack, Bye, Cancel, Options}
-use Rattle.sip.specs.Lines.{Start, start, startSize, Field, Header, header, canonical}
-use Rattle.sip.specs.Profile.{numberOf, once, columnOf, ignored, mandatory, numbers}
-use Rattle.sip.specs.Values.{isEmpty, isMaxForwards, isContentLength, isCSeq, isCallId, uri, isFrom, isTo, isTagged, isIdentity}
+use Rattle.sip.specs.declared.Column.the-variants.{Invite, Reinvite, Ack, Bye, Cancel, Options, InviteSuccess, CancelResponse, OtherResponse}
+use Rattle.sip.specs.Lines.{RequestLine, StatusLine, Start, request, response, start, startSize, Field, Header, header, canonical}
+use Rattle.sip.specs.Profile.{numberOf, once, columnOf, responseColumn, ignored, mandatory, numbers}
+use Rattle.sip.specs.Values.{isEmpty, isMaxForwards, isContentLength, isCSeq, cseqMethod, isCallId, uri, isFrom, isTo, isTagged, isIdentity}
 use Rattle.sip.specs.Values.{isPrivacy, holdsId, isRequire, requiredTags, firstPlace, isLacking, person, isCalled}
 
 -- "The answer has reason, reply, detail, missing count and length; each is 0 where not said here."
@@ -25,9 +25,13 @@ pub record Answer : Type 0 where
 abbrev pub refusal : ℕ → ℕ → ℕ → ℕ → Answer
 refusal reason reply detail missing = record { reason = reason; reply = reply; detail = detail; missing = missing; length = 0 }
 
--- "Reply 0 means send nothing. For ACK it is always 0."
+-- "Reply 0 means send nothing. For ACK it is always 0." CR 1, of responses: "reply always 0"
+abbrev pub silent : Start → Bool
+silent (request l) = same (text "ACK") (l .method)
+silent (response l) = true
+
 unfoldable pub replied : Start → Answer → Answer
-replied l a = cond (same (text "ACK") (l .method)) (refusal (a .reason) 0 (a .detail) (a .missing)) a
+replied l a = cond (silent l) (refusal (a .reason) 0 (a .detail) (a .missing)) a
 
 -- ---- reasons 2 to 5: the lines
 
@@ -103,14 +107,14 @@ otherScheme u =
     let scheme = take n u in
     ltb n (length u) && (not (isEmpty scheme) && (all isToken scheme && not (sameText (text "sip") scheme || sameText (text "tel") scheme)))
 
-unfoldable pub reason7 : Start → Option Answer
+unfoldable pub reason7 : RequestLine → Option Answer
 reason7 l = when (otherScheme (l .uri)) (refusal 7 416 0 0)
 
 -- "Request-URI otherwise malformed"
 unfoldable pub isUri : List ℕ → Bool
 isUri u = let n = uri u .size in not (eqb n 0) && eqb n (length u)
 
-unfoldable pub reason8 : Start → Option Answer
+unfoldable pub reason8 : RequestLine → Option Answer
 reason8 l = when (not (isUri (l .uri))) (refusal 8 400 0 0)
 
 -- "the number of the first field that repeats an earlier one", of those "without "yes""; `earlier` are the numbers before. 0: there is none
@@ -144,8 +148,8 @@ firstMalformed method (e ∷ es) =
     let later = firstMalformed method es in
     cond (wellFormed method (e .number) (e .value)) later (e .number)
 
-unfoldable pub reason10 : Start → List Entry → Option Answer
-reason10 l es = let n = firstMalformed (l .method) es in when (not (eqb n 0)) (refusal 10 400 n 0)
+unfoldable pub reason10 : List ℕ → List Entry → Option Answer
+reason10 method es = let n = firstMalformed method es in when (not (eqb n 0)) (refusal 10 400 n 0)
 
 -- "Content-Length exceeds the bytes there"
 unfoldable pub exceeds : List Entry → List ℕ → Bool
@@ -198,8 +202,11 @@ isInitial Ack = false
 isInitial Bye = false
 isInitial Cancel = false
 isInitial Options = false
+isInitial InviteSuccess = false
+isInitial CancelResponse = false
+isInitial OtherResponse = false
 
-unfoldable pub reason15 : Column → Start → Option Answer
+unfoldable pub reason15 : Column → RequestLine → Option Answer
 reason15 c l = when (isInitial c && not (isCalled (person (uri (l .uri)) (l .uri)))) (refusal 15 484 0 0)
 
 -- ---- "first that applies"
@@ -209,40 +216,85 @@ firstOf [] = none
 firstOf (none ∷ rs) = firstOf rs
 firstOf (some a ∷ rs) = some a
 
-unfoldable pub reasons : Column → Start → List Entry → List ℕ → List (Option Answer)
+unfoldable pub reasons : Column → RequestLine → List Entry → List ℕ → List (Option Answer)
 reasons c l es rest =
-    reason7 l ∷ reason8 l ∷ reason9 es ∷ reason10 l es ∷ reason11 es rest ∷ reason12 c es rest ∷ reason13 es ∷ reason14 es ∷ reason15 c l ∷ []
+    reason7 l ∷ reason8 l ∷ reason9 es ∷ reason10 (l .method) es ∷ reason11 es rest ∷ reason12 c es rest ∷ reason13 es ∷ reason14 es ∷ reason15 c l ∷ []
 
--- a request that no reason up to 15 refuses: its start line, its kept fields and its body
-pub record Request : Type 0 where
+-- CR 1, of responses: "then 9 to 12"; "Require is not judged"
+unfoldable pub responseReasons : Column → List ℕ → List Entry → List ℕ → List (Option Answer)
+responseReasons c method es rest = reason9 es ∷ reason10 method es ∷ reason11 es rest ∷ reason12 c es rest ∷ []
+
+-- a message that no reason but 1 and 16 refuses: its start line, its kept fields and its body
+pub record Passed : Type 0 where
   pub line : Start
   pub fields : List Entry
   pub body : List ℕ
 
 pub data Judgement : Type 0 where
   refused : Answer → Judgement
-  accepted : Request → Judgement
+  accepted : Passed → Judgement
 
-abbrev settled : Start → Request → Option Answer → Judgement
+abbrev settled : Start → Passed → Option Answer → Judgement
 settled l r none = accepted r
 settled l r (some a) = refused (replied l a)
 
--- reasons 6 to 15: of the start line, the kept fields and the rest of the message alone
-unfoldable pub judged : Start → List Entry → List ℕ → Judgement
-judged l es rest =
+abbrev pub passed : Start → List Entry → List ℕ → Passed
+passed l es rest = record { line = l; fields = es; body = bodyOf es rest }
+
+-- of a request, reasons 6 to 15
+unfoldable pub judgedRequest : RequestLine → List Entry → List ℕ → Judgement
+judgedRequest l es rest =
     elim (columnOf (l .method) (toTagged es)) [
       | none ↦ refused (refusal 6 405 0 0)
-      | some c ↦ settled l (record { line = l; fields = es; body = bodyOf es rest }) (firstOf (reasons c l es rest))
+      | some c ↦ settled (request l) (passed (request l) es rest) (firstOf (reasons c l es rest))
     ]
 
--- "both INVITE columns ignore the same": which fields are kept does not ask for the tag
+abbrev methodOrEmpty : Option (List ℕ) → List ℕ
+methodOrEmpty none = []
+methodOrEmpty (some v) = cseqMethod v
+
+-- the method that the first CSeq names; empty where that is absent or malformed
+unfoldable pub firstCSeqMethod : List Entry → List ℕ
+firstCSeqMethod es = methodOrEmpty (valueOf 6 es)
+
+abbrev pub statusOf : StatusLine → ℕ
+statusOf l = decimal 0 (l .code)
+
+-- the column of a response; none for "an absent or malformed first CSeq or an unknown method"
+unfoldable pub responseColumnOf : StatusLine → List Entry → Option Column
+responseColumnOf l es = responseColumn (within 200 299 (statusOf l)) (firstCSeqMethod es)
+
+-- CR 1: "a status outside 100 to 699 is 17 and comes after 5, an absent or malformed first CSeq or an unknown method (here ACK too) is 6
+-- .., then 9 to 12". Every column keeps CSeq, so that the first among the kept fields is the first of all
+unfoldable pub judgedResponse : StatusLine → List Entry → List ℕ → Judgement
+judgedResponse l es rest =
+    let known : Judgement =
+    elim (responseColumnOf l es) [
+      | none ↦ refused (refusal 6 0 0 0)
+      | some c ↦ settled (response l) (passed (response l) es rest) (firstOf (responseReasons c (firstCSeqMethod es) es rest))
+    ]
+    in
+    cond (within 100 699 (statusOf l)) known (refused (refusal 17 0 0 0))
+
+-- reasons 6 to 15 and 17: of the start line, the kept fields and the rest of the message alone
+abbrev pub judged : Start → List Entry → List ℕ → Judgement
+judged (request l) es rest = judgedRequest l es rest
+judged (response l) es rest = judgedResponse l es rest
+
+-- the column by which fields are ignored. Of a request it is the method's: "both INVITE columns ignore the same", so the tag is not asked
+-- for. Of a response it is that of its status and of its first CSeq among all listed fields; without a column, "only unlisted names are
+-- ignored there"
+abbrev pub messageColumn : Start → List Field → Option Column
+messageColumn (request l) fs = columnOf (l .method) false
+messageColumn (response l) fs = responseColumnOf l (kept none fs)
+
 abbrev pub keptOf : Start → List Field → List Entry
-keptOf l fs = kept (columnOf (l .method) false) fs
+keptOf l fs = kept (messageColumn l fs) fs
 
 abbrev judgedLines : Lines → Judgement
 judgedLines (unread r) = refused (refusal r 0 0 0)
 judgedLines (read l h) = judged l (keptOf l (h .fields)) (h .rest)
 
--- reasons 2 to 15: of the message alone
+-- reasons 2 to 15 and 17: of the message alone
 unfoldable pub judgement : List ℕ → Judgement
 judgement m = judgedLines (lines m)

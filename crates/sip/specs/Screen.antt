@@ -4,7 +4,7 @@ use mathlib.Core.List.{List, _++_}
 use Prim.Native.Nat.{ℕ}
 use lib.Dec.{leb, eqb}
 use lib.ListN.{length, drop}
-use Rattle.sip.specs.Refusals.{Answer, refusal, replied, withheld, Request, Judgement, refused, accepted, judgement}
+use Rattle.sip.specs.Refusals.{Answer, refusal, replied, withheld, Passed, Judgement, refused, accepted, judgement}
 use Rattle.sip.specs.Output.{output}
 
 -- the answer, and what the buffer holds afterwards
@@ -22,11 +22,11 @@ sending o buffer =
     record { answer = record { reason = 0; reply = 0; detail = 0; missing = 0; length = length o }; buffer = o ++ drop (length o) buffer }
 
 -- "On side 1 with the caller withheld"
-unfoldable pub masks : ℕ → Request → Bool
+unfoldable pub masks : ℕ → Passed → Bool
 masks side r = eqb side 1 && withheld (r .fields)
 
 -- reason 16: "output longer than the buffer"; its detail is "the length needed"
-unfoldable pub delivered : Request → List ℕ → List ℕ → Screened
+unfoldable pub delivered : Passed → List ℕ → List ℕ → Screened
 delivered r o buffer = cond (leb (length o) (length buffer)) (sending o buffer) (refusing (replied (r .line) (refusal 16 500 (length o) 0)) buffer)
 
 abbrev concluded : ℕ → List ℕ → Judgement → Screened

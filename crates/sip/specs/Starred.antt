@@ -9,6 +9,7 @@ use Rattle.causes.specs.Causes.{status, cause}
 use Rattle.sip.specs.Lines.{crlf}
 use Rattle.sip.specs.Refusals.{refusal}
 use Rattle.sip.specs.Screen.{Screened, refusing, screened}
+use Rattle.sip.specs.Readings.{count, callingNumber}
 
 -- "lines end in CRLF, the empty line last"
 unfoldable pub linesOf : List String → List ℕ
@@ -55,23 +56,28 @@ unfoldable pub blankBuffer : ℕ → List ℕ
 blankBuffer zero = []
 blankBuffer (suc n) = 0 ∷ blankBuffer n
 
--- a row: a message, its side, the buffer, and what it gives; a cause and its status; a status and its cause
+-- a row: a message, its side, the buffer, and what it gives; a message, the trunk number, and the calling number; a message, a field's
+-- number, and its count; a cause and its status; a status and its cause
 pub data Case : Type 0 where
   screening : List ℕ → ℕ → List ℕ → Screened → Case
+  calling : List ℕ → List ℕ → List ℕ → Case
+  counting : List ℕ → ℕ → ℕ → Case
   causeGives : ℕ → ℕ → Case
   statusGives : ℕ → ℕ → Case
 
 abbrev pub Holds : Case → Type 0
 Holds (screening m side buffer gives) = screened m side buffer ≡ gives
+Holds (calling m trunk gives) = callingNumber m trunk ≡ gives
+Holds (counting m n gives) = count m n ≡ gives
 Holds (causeGives c s) = status c ≡ record { status = s; refusal = 0 }
 Holds (statusGives s c) = cause s ≡ record { cause = c; refusal = 0 }
 
 -- on side 1, "with a buffer of 9,216 bytes"
-abbrev refuses : List ℕ → ℕ → ℕ → ℕ → ℕ → Case
+abbrev pub refuses : List ℕ → ℕ → ℕ → ℕ → ℕ → Case
 refuses m reason reply detail missing = screening m 1 (blankBuffer 9216) (refusing (refusal reason reply detail missing) (blankBuffer 9216))
 
 -- the n bytes o go out, and the other bytes of the buffer stay
-abbrev sends : List ℕ → ℕ → List ℕ → Case
+abbrev pub sends : List ℕ → ℕ → List ℕ → Case
 sends m n o =
     screening m 1 (blankBuffer 9216)
     (record { answer = record { reason = 0; reply = 0; detail = 0; missing = 0; length = n }; buffer = o ++ drop n (blankBuffer 9216) })

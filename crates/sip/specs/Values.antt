@@ -40,6 +40,15 @@ isCSeq method v =
     let b = run isBlank (drop n v) in
     not (eqb n 0) && (not (eqb b 0) && same method (drop (n + b) v))
 
+-- CR 1: "The method is the token that ends the CSeq value": what stands after the number and the spaces or tabs. Empty where the value
+-- is malformed
+unfoldable pub cseqMethod : List ℕ → List ℕ
+cseqMethod v =
+    let n = number 10 2147483647 v .size in
+    let b = run isBlank (drop n v) in
+    let token = drop (n + b) v in
+    cond (not (eqb n 0) && (not (eqb b 0) && all isToken token)) token []
+
 -- ---- "Call-ID: 1 to 128 bytes, each 33 to 126."
 
 unfoldable pub isCallId : List ℕ → Bool

@@ -1,6 +1,7 @@
-// The vocabulary of document 01: the types that its definitions (specs/) and the code of the other crates share.
+// The vocabulary of documents 01 and 02: the types that their definitions (specs/) and the code of the other crates share.
 
-// The six columns of the profile.
+// The columns of the profile. Six are of requests. Three are of responses: to an INVITE with a status from 200 to 299, to a CANCEL, and all
+// others.
 pub enum Column {
     Invite,
     Reinvite,
@@ -8,6 +9,9 @@ pub enum Column {
     Bye,
     Cancel,
     Options,
+    InviteSuccess,
+    CancelResponse,
+    OtherResponse,
 }
 
 // A URI at the front of a text: its size with the tail, whether it is a tel URI, how many bytes after `sip:` are the user (0: there is

@@ -10,9 +10,6 @@ is-masked-requires c κs = search needs
 needed-requires : tie.Need-needed-requires
 needed-requires c κs = search needs
 
-first-requires : tie.Need-first-requires
-first-requires c κs = search needs
-
 too-long-requires : tie.Need-too-long-requires
 too-long-requires c κs = search needs
 
@@ -34,7 +31,6 @@ deliver-spec =
     (tie.spec
     is-masked-requires
     needed-requires
-    first-requires
     too-long-requires
     returns
     write-requires

@@ -1,44 +1,40 @@
 -- Start line, lines and body are written one after the other, and the room for all is room for each.
-use mathlib.Core.Path.{_≡_, refl}
+use mathlib.Core.Path.{_≡_}
 use mathlib.Core.List.{List, _++_, append-assoc}
 use Prim.Native.Nat.{ℕ, _+_, _≤_}
 use native.Mathlib.Omega.{arith}
-use lib.ListN.{length, take, length-append}
+use lib.ListN.{length, length-append}
 use borrow.Author.Needs.{needs}
-use Rattle.octets.specs.Classes.{text}
 use Rattle.sip.specs.Lines.{crlf}
 use Rattle.emit.specs.Put.{Wrote}
 use Rattle.emit.proofs.Laws.{then, wrote-room, wrote-length, wrote-as}
+use Rattle.gateway.specs.Sent.{sentStart}
+use Rattle.gateway.proofs.Starts.{start-length}
 use Rattle.gateway.proofs.put_message.Statement.{statement}
 use Rattle.gateway.proofs.put_message.Tie as tie
 
-abbrev version : List ℕ
-version = text " SIP/2.0\r\n"
-
-version-length : length version ≡ 10
-unfolding text
-version-length = refl
-
-module _ (m : List ℕ) (before : ℕ) (l b : List ℕ) {d d₁ : List ℕ} {n₁ : ℕ}
-    (h : length (take before m) + (10 + (length l + (2 + length b))) ≤ length d) (p₁ : Wrote d 0 (take before m ++ version) n₁ d₁) where
-  start-length : length (take before m ++ version) ≡ length (take before m) + 10
-  start-length = rw (length-append, version-length)
+module _ (m : List ℕ) (before line : ℕ) (l b : List ℕ) {d d₁ : List ℕ} {n₁ : ℕ} (e : before + 7 ≤ line) (f : line ≤ length m)
+    (h : line + (length l + (2 + length b)) ≤ length d) (p₁ : Wrote d 0 (sentStart m before line) n₁ d₁) where
+  start-long : length (sentStart m before line) ≡ line
+  start-long = start-length m before line e f
 
   lines-fit : n₁ + length l ≤ length d₁
-  lines-fit = omega (arith, start-length, wrote-room p₁ (omega (arith, start-length)) .0, wrote-length p₁)
+  lines-fit = omega (arith, start-long, wrote-room p₁ (omega (arith, start-long)) .0, wrote-length p₁)
 
   module _ {d₂ : List ℕ} {n₂ : ℕ} (p₂ : Wrote d₁ n₁ l n₂ d₂) where
-    front : Wrote d 0 ((take before m ++ version) ++ l) n₂ d₂
-    front = then p₁ p₂ (omega (arith, start-length))
+    front : Wrote d 0 (sentStart m before line ++ l) n₂ d₂
+    front = then p₁ p₂ (omega (arith, start-long))
 
-    front-length : length ((take before m ++ version) ++ l) ≡ length (take before m) + 10 + length l
-    front-length = rw (length-append, start-length)
+    front-length : length (sentStart m before line ++ l) ≡ line + length l
+    front-length = rw (length-append, start-long)
 
     body-fits : n₂ + (2 + length b) ≤ length d₂
     body-fits = omega (arith, front-length, wrote-room front (omega (arith, front-length)) .0, wrote-length front)
 
-    all : {d₃ : List ℕ} {r : ℕ} → Wrote d₂ n₂ (crlf ++ b) r d₃ → Wrote d 0 (take before m ++ (version ++ (l ++ (crlf ++ b)))) r d₃
-    all p₃ = wrote-as (then front p₃ (omega (arith, front-length))) (take before m ++ (version ++ (l ++ (crlf ++ b)))) (simp append-assoc)
+    all : {d₃ : List ℕ} {r : ℕ} → Wrote d₂ n₂ (crlf ++ b) r d₃ → Wrote d 0 (sentStart m before line ++ (l ++ (crlf ++ b))) r d₃
+    all p₃ =
+        wrote-as (then front p₃ (omega (arith, front-length))) (sentStart m before line ++ (l ++ (crlf ++ b)))
+        (append-assoc (sentStart m before line) l (crlf ++ b))
 
 put-start-requires : tie.Need-put-start-requires
 put-start-requires c κs = search needs

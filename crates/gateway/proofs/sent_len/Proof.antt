@@ -10,12 +10,6 @@ sending-of-requires c κs = search needs
 sent-set-requires : tie.Need-sent-set-requires
 sent-set-requires c κs = search needs
 
-add-before : tie.Need-add-before
-add-before c = search needs
-
-add-before-2 : tie.Need-add-before-2
-add-before-2 c = search needs
-
 lines-len-requires : tie.Need-lines-len-requires
 lines-len-requires c κs = search (told, hidden, needs)
 
@@ -28,9 +22,6 @@ add-result-2 c = search needs
 add-result-3 : tie.Need-add-result-3
 add-result-3 c = search needs
 
-add-result-4 : tie.Need-add-result-4
-add-result-4 c = search needs
-
 returns : tie.Need-returns
 returns c = search (sent-long, needs)
 
@@ -40,11 +31,8 @@ sent-len-spec =
     (tie.spec
     sending-of-requires
     sent-set-requires
-    add-before
-    add-before-2
     lines-len-requires
     add-result
     add-result-2
     add-result-3
-    add-result-4
     returns)

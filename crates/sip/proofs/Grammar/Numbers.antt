@@ -1,6 +1,6 @@
 -- Max-Forwards, Content-Length, CSeq and Call-ID: each is accepted exactly if the grammar derives it.
 use mathlib.Core.Path.{_≡_, refl, _∙_, sym}
-use mathlib.Core.Bool.{Bool, true, false, not, cond, _&&_}
+use mathlib.Core.Bool.{true, not, _&&_}
 use mathlib.Core.List.{List, [], _∷_, _++_, append-nil}
 use Prim.Native.Nat.{ℕ, suc, _+_, _≤_, zero, _-_, _*_}
 use native.Mathlib.Omega.{arith}
@@ -14,6 +14,7 @@ use Rattle.octets.specs.declared.NumberAt.{NumberAt}
 use Rattle.sip.specs.Values.{isNumber, isMaxForwards, isContentLength, isCSeq, isCallId}
 use Rattle.sip.specs.Grammar.{Each, Long, MaxForwards, ContentLength, CSeq, cseq-of, CallId}
 use Rattle.sip.proofs.Tests.{never, and-left, and-right, range-high, all-first, all-others}
+use Rattle.sip.proofs.Texts.{same-eq, same-refl}
 use Rattle.sip.proofs.Grammar.Bytes.{Ends, NumberView, RunView, all-of, each-all, end, long-of, not-number, number-here, number-of}
 use Rattle.sip.proofs.Grammar.Bytes.{number-view, ran, run-of, run-view, some-no, stop, within-long}
 use Rattle.sip.proofs.Grammar.Follows.{blank-digit}
@@ -78,22 +79,6 @@ content-length-complete {v} h =
     number-complete 5 99999 (record { digits = h .digits; long = h .long; small = decimal-le 5 0 0 v (h .long .most) (omega arith) (all-of (h .digits)) })
 
 -- ---- CSeq
-
-same-eq : (s t : List ℕ) → same s t ≡ true → s ≡ t
-unfolding same
-same-eq [] [] e = refl
-same-eq [] (y ∷ t) e = never (cc)
-same-eq (x ∷ s) [] e = never (cc)
-same-eq (x ∷ s) (y ∷ t) e = go (eqb x y) refl e (same-eq s t)
-  where
-    go : (b : Bool) → eqb x y ≡ b → cond b (same s t) false ≡ true → (same s t ≡ true → s ≡ t) → x ∷ s ≡ y ∷ t
-    go true p q ih = let k : x ≡ y = eqb-true x y p in rw (k, ih q)
-    go false p q ih = never (cc)
-
-same-refl : (s : List ℕ) → same s s ≡ true
-unfolding same
-same-refl [] = refl
-same-refl (x ∷ s) = rw (eq-eqb x x refl, same-refl s)
 
 pub cseq-sound : (method v : List ℕ) → isCSeq method v ≡ true → CSeq method v
 unfolding isCSeq

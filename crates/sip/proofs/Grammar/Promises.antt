@@ -1,9 +1,12 @@
 -- The promises over the grammar, each from its two halves.
+use Rattle.sip.specs.Lines.{request}
 use Rattle.sip.specs.Values.{tagOf}
-use Rattle.sip.specs.Grammar.{Token, personOf}
+use Rattle.sip.specs.Refusals.{firstCSeqMethod, responseColumnOf}
+use Rattle.sip.specs.Change.{StartShaped}
+use Rattle.sip.specs.Grammar.{personOf}
 use Rattle.sip.specs.GrammarPromises.{TagsRead, IdRead, LackingRead, UriRead, OneUri, PersonRead, CalledRead, ToRead, FromRead}
 use Rattle.sip.specs.GrammarPromises.{OneParty, IdentityRead, PrivacyRead, RequireRead, FieldRead, MethodToken, SchemeRead}
-use Rattle.sip.specs.GrammarPromises.{TaggedRead, NoOther}
+use Rattle.sip.specs.GrammarPromises.{TaggedRead, NoOther, ResponseMethodToken, CSeqMethodRead, NoCSeqMethodRead}
 use Rattle.sip.proofs.Change.{everything}
 use Rattle.sip.proofs.Grammar.Bytes.{each-all}
 use Rattle.sip.proofs.Grammar.Tokens.{id-complete, id-sound, lacking-complete, lacking-sound, privacy-complete, privacy-sound}
@@ -13,6 +16,7 @@ use Rattle.sip.proofs.Grammar.Parties.{from-complete, from-sound, ident
 use Rattle.sip.proofs.Grammar.Parties.{tags-found, to-complete, to-sound}
 use Rattle.sip.proofs.Grammar.Unique.{party-unique, person-found, uri-unique}
 use Rattle.sip.proofs.Grammar.RequestUris.{called-complete, called-sound, no-other, scheme-complete, scheme-sound}
+use Rattle.sip.proofs.Grammar.Methods.{column-token, named-complete, named-none, named-sound, none-named}
 use Rattle.sip.proofs.Grammar.Fields.{formed-complete, formed-sound}
 
 pub scheme-read : SchemeRead
@@ -68,7 +72,16 @@ field-read method m k v = ((λ e. formed-sound method k v e), (λ d. formed-comp
 
 pub method-token : MethodToken
 method-token m l h e =
-    let r = everything m l h e in
-    let s = r .change .start-shaped in
-    let t : Token (r .change .line .method) = record { some = s .method-long; bytes = each-all (s .method-token) } in
-    rw (r .same-line) at t
+    let r = everything m (request l) h e in
+    let s : StartShaped (request l) (r .change .version) = rw (r .same-line) at (r .change .start-shaped) in
+    record { some = s .method-long; bytes = each-all (s .method-token) }
+
+pub response-method-token : ResponseMethodToken
+unfolding responseColumnOf
+response-method-token l es c e = column-token _ (firstCSeqMethod es) c e
+
+pub no-cseq-method-read : NoCSeqMethodRead
+no-cseq-method-read v = ((λ e. named-none v e), (λ h. none-named v h))
+
+pub cseq-method-read : CSeqMethodRead
+cseq-method-read method v t = ((λ e. named-sound t v e), (λ d. named-complete t d))

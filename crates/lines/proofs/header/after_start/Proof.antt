@@ -1,4 +1,5 @@
 -- Each answer is what the fields come to, by how they end.
+use Rattle.lines.proofs.Starts.{same-line}
 use Rattle.lines.proofs.Messages.{cleared, settled-unread, settled-cleared, settled-read, settled-slots}
 use borrow.Author.Needs.{needs}
 use Rattle.lines.proofs.header.after_start.Statement.{statement}
@@ -8,7 +9,7 @@ clear-requires : tie.Need-clear-requires
 clear-requires c κs = search needs
 
 fields-requires : tie.Need-fields-requires
-fields-requires c κs = (search needs, search needs, search needs, search needs, search cleared)
+fields-requires c κs = (search needs, search needs, search same-line, search needs, search needs, search cleared)
 
 unread-requires : tie.Need-unread-requires
 unread-requires c κs = search needs

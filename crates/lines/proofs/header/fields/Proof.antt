@@ -7,17 +7,11 @@ use Rattle.lines.proofs.header.fields.Statement.{statement}
 use Rattle.lines.proofs.header.fields.Tie as tie
 
 abbrev Inv-loop : tie.InvT-loop
-Inv-loop table s slots₀ method uri count₀ number₀ at₀ slots count number at =
-    (at ≤ length s) × (number ≤ at) × Reached s method uri number at count slots
+Inv-loop table s slots₀ line count₀ number₀ at₀ slots count number at =
+    (at ≤ length s) × (number ≤ at) × Reached s number at count slots
 
 abbrev μ-loop : tie.MeasureT-loop
-μ-loop table s slots₀ method uri count₀ number₀ at₀ slots count number at = length s - at
-
-add-at : tie.Need-add-at Inv-loop μ-loop
-add-at c = search needs
-
-add-at-2 : tie.Need-add-at-2 Inv-loop μ-loop
-add-at-2 c = search needs
+μ-loop table s slots₀ line count₀ number₀ at₀ slots count number at = length s - at
 
 loop-holds : tie.Need-loop-holds Inv-loop μ-loop
 loop-holds c = search (begin, needs)
@@ -49,8 +43,8 @@ add-requires c κs = search needs
 add-number : tie.Need-add-number Inv-loop μ-loop
 add-number c = search needs
 
-add-at-3 : tie.Need-add-at-3 Inv-loop μ-loop
-add-at-3 c = record { fits = search next-small }
+add-at : tie.Need-add-at Inv-loop μ-loop
+add-at c = record { fits = search next-small }
 
 loop-less : tie.Need-loop-less Inv-loop μ-loop
 loop-less c = search next-less
@@ -70,8 +64,6 @@ fields-spec =
     (tie.spec
     Inv-loop
     μ-loop
-    add-at
-    add-at-2
     loop-holds
     read-requires
     unnamed-requires
@@ -82,7 +74,7 @@ fields-spec =
     slot-of-requires
     add-requires
     add-number
-    add-at-3
+    add-at
     loop-less
     loop-again
     refused-requires-2
