@@ -1,6 +1,8 @@
 //! Messages put together from parts, for the recorded cases and the comparison: start line, whole fields, body.
 
-use crate::profile::{self, ROWS};
+use crate::profile::{self, Column, COLUMNS, ROWS};
+use crate::start::Start;
+use std::ops::Range;
 
 /// A small deterministic generator of numbers (xorshift64).
 #[derive(Clone, Debug)]
@@ -61,14 +63,17 @@ impl Whole {
 /// A message in parts. Nothing keeps it well shaped.
 #[derive(Clone, Debug)]
 pub struct Draft {
-    pub method: Vec<u8>,
-    pub uri: Vec<u8>,
+    pub start: Start,
     pub fields: Vec<Whole>,
     pub body: Vec<u8>,
 }
 
-/// The six columns of the profile by their place in the table, each with its method.
-pub const COLUMN_METHODS: [&str; 6] = ["INVITE", "INVITE", "ACK", "BYE", "CANCEL", "OPTIONS"];
+/// The nine columns of the profile by their place in the table, each with a method.
+pub const COLUMN_METHODS: [&str; 9] = ["INVITE", "INVITE", "ACK", "BYE", "CANCEL", "OPTIONS", "INVITE", "CANCEL", "BYE"];
+
+/// The places of the columns of requests and of responses.
+pub const REQUESTS: Range<usize> = 0..6;
+pub const RESPONSES: Range<usize> = 6..9;
 
 /// A Request-URI whose called number is good.
 pub const GOOD_URI: &str = "sip:+331234567@g";
@@ -79,7 +84,7 @@ pub fn good_value(number: u64, column: usize) -> Vec<u8> {
         1 => "SIP/2.0/UDP a;branch=z9",
         2 => "70",
         3 => "<sip:+331876543@a>;tag=a1",
-        4 if column == 1 => "<sip:+331234567@g>;tag=b2",
+        4 if column == 1 || RESPONSES.contains(&column) => "<sip:+331234567@g>;tag=b2",
         4 => "<sip:+331234567@g>",
         5 => "9x@a",
         6 => return format!("1 {}", COLUMN_METHODS[column]).into_bytes(),
@@ -100,15 +105,29 @@ pub fn good_value(number: u64, column: usize) -> Vec<u8> {
 }
 
 impl Draft {
-    /// Start line and no fields.
+    /// A request line and no fields.
     pub fn bare(method: &str, uri: &str) -> Draft {
-        Draft { method: method.as_bytes().to_vec(), uri: uri.as_bytes().to_vec(), fields: Vec::new(), body: Vec::new() }
+        Draft { start: Start::Request { method: method.into(), uri: uri.into() }, fields: Vec::new(), body: Vec::new() }
+    }
+
+    /// A status line and no fields.
+    pub fn bare_status(code: &str, phrase: &str) -> Draft {
+        Draft { start: Start::Status { code: code.into(), phrase: phrase.into() }, fields: Vec::new(), body: Vec::new() }
+    }
+
+    /// The start line of a column and no fields.
+    fn start_of(column: usize) -> Draft {
+        if RESPONSES.contains(&column) {
+            Draft::bare_status("200", "OK")
+        } else {
+            Draft::bare(COLUMN_METHODS[column], GOOD_URI)
+        }
     }
 
     /// The mandatory fields of a column, without a body: accepted.
     pub fn least(column: usize) -> Draft {
-        let mut draft = Draft::bare(COLUMN_METHODS[column], GOOD_URI);
-        for row in ROWS.iter().filter(|row| row.columns.as_bytes()[column] == b'M') {
+        let mut draft = Draft::start_of(column);
+        for row in ROWS.iter().filter(|row| profile::letter(row, COLUMNS[column]) == b'M') {
             draft.add(row.name, &good_value(row.number, column));
         }
         draft
@@ -116,7 +135,7 @@ impl Draft {
 
     /// All 18 fields with good values: accepted in every column.
     pub fn full(column: usize) -> Draft {
-        let mut draft = Draft::bare(COLUMN_METHODS[column], GOOD_URI);
+        let mut draft = Draft::start_of(column);
         for row in &ROWS {
             draft.add(row.name, &good_value(row.number, column));
         }
@@ -129,6 +148,16 @@ impl Draft {
         let cseq = format!("1 {method}");
         for (name, value) in [("v", "x"), ("Max-Forwards", "9"), ("f", "<sip:h>;tag=1"), ("t", "sip:h"), ("i", "x"), ("CSeq", &cseq)] {
             draft.fields.push(Whole { name: name.into(), rest: [b":", value.as_bytes(), b"\r\n"].concat() });
+        }
+        draft
+    }
+
+    /// A short accepted response to a method.
+    pub fn short_response(code: &str, method: &str) -> Draft {
+        let mut draft = Draft::short(method).without(2);
+        draft.start = Start::Status { code: code.into(), phrase: Vec::new() };
+        if profile::column_of_response(code.parse().unwrap_or(0), method.as_bytes()) == Some(Column::InviteSuccess) {
+            draft.fields.push(Whole { name: b"m".to_vec(), rest: b":x\r\n".to_vec() });
         }
         draft
     }
@@ -155,9 +184,30 @@ impl Draft {
         changed
     }
 
+    /// Gives a request line another method; a status line stays.
+    pub fn set_method(&mut self, name: &[u8]) {
+        if let Start::Request { method, .. } = &mut self.start {
+            *method = name.to_vec();
+        }
+    }
+
+    /// Gives a request line another Request-URI; a status line stays.
+    pub fn set_uri(&mut self, text: &[u8]) {
+        if let Start::Request { uri, .. } = &mut self.start {
+            *uri = text.to_vec();
+        }
+    }
+
     /// The same with another Request-URI.
     pub fn to(&self, uri: &[u8]) -> Draft {
-        Draft { uri: uri.to_vec(), ..self.clone() }
+        let mut changed = self.clone();
+        changed.set_uri(uri);
+        changed
+    }
+
+    /// The same with this status line.
+    pub fn status(&self, code: &str, phrase: &[u8]) -> Draft {
+        Draft { start: Start::Status { code: code.into(), phrase: phrase.to_vec() }, ..self.clone() }
     }
 
     /// The same with one more field at the end.
@@ -180,7 +230,7 @@ impl Draft {
     }
 
     pub fn bytes(&self) -> Vec<u8> {
-        let mut out = [&self.method, &b" "[..], &self.uri, b" SIP/2.0\r\n"].concat();
+        let mut out = [&self.start.written()[..], b"\r\n"].concat();
         for field in &self.fields {
             out.extend(&field.name);
             out.extend(&field.rest);

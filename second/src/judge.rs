@@ -1,12 +1,10 @@
-//! "Refusal numbers, first that applies": reasons 1 to 15, one small question after another.
+//! "Refusal numbers, first that applies": reasons 1 to 5, and those that requests and responses share, one small question after another.
 
-use crate::address;
-use crate::classes::{is_whole_token, same_in_any_case};
 use crate::lines::{self, Canonical, Lines};
 use crate::profile::{self, Column, ROWS};
-use crate::uri;
+use crate::start::Start;
 use crate::values;
-use crate::Refusal;
+use crate::{request, response, Refusal};
 
 /// A field not ignored.
 #[derive(Clone, Debug)]
@@ -15,11 +13,10 @@ pub struct Kept {
     pub value: Canonical,
 }
 
-/// A request for which none of the reasons 1 to 15 applies.
+/// A message for which none of the reasons before 16 applies.
 #[derive(Clone, Debug)]
 pub struct Passed {
-    pub method: Vec<u8>,
-    pub uri: Vec<u8>,
+    pub start: Start,
     pub fields: Vec<Kept>,
     /// The bytes after the empty line, cut to Content-Length where that is given.
     pub body: Vec<u8>,
@@ -37,31 +34,41 @@ impl Passed {
     }
 }
 
-/// Reason, detail and missing count of a refusal; the reply follows from reason and method.
-struct Found {
-    reason: u64,
-    detail: u64,
-    missing: u64,
+/// Reason, detail and missing count of a refusal; the reply follows from the reason and the start line.
+pub struct Found {
+    pub reason: u64,
+    pub detail: u64,
+    pub missing: u64,
 }
 
-fn found(reason: u64, detail: u64) -> Found {
+pub fn found(reason: u64, detail: u64) -> Found {
     Found { reason, detail, missing: 0 }
 }
 
-/// Judges a message for a side by the reasons 1 to 15.
+/// Judges a message for a side by all reasons but 16.
 pub fn judge(message: &[u8], side: u64) -> Result<Passed, Refusal> {
     if side != 0 && side != 1 {
-        return Err(refusal(1, 0, 0, b""));
+        return Err(silent(1));
     }
-    let lines = lines::read(message).map_err(|reason| refusal(reason, 0, 0, b""))?;
-    let method = lines.method.clone();
-    request(lines).map_err(|f| refusal(f.reason, f.detail, f.missing, &method))
+    let lines = lines::read(message).map_err(silent)?;
+    let start = lines.start.clone();
+    let judged = match &start {
+        Start::Request { method, uri } => request::judge(lines, method, uri),
+        Start::Status { code, .. } => response::judge(lines, code),
+    };
+    judged.map_err(|found| refusal(found, &start))
 }
 
-/// The Reply column. "For ACK it is always 0."
-pub fn refusal(reason: u64, detail: u64, missing: u64, method: &[u8]) -> Refusal {
+/// Reasons 1 to 5: "Reply 0 means send nothing."
+fn silent(reason: u64) -> Refusal {
+    Refusal { reason, reply: 0, detail: 0, missing: 0 }
+}
+
+/// The Reply column, where the message may be answered at all.
+pub fn refusal(found: Found, start: &Start) -> Refusal {
+    let Found { reason, detail, missing } = found;
     let reply = match reason {
-        _ if method == b"ACK" => 0,
+        _ if start.is_never_answered() => 0,
         6 => 405,
         7 => 416,
         8..=12 => 400,
@@ -74,40 +81,16 @@ pub fn refusal(reason: u64, detail: u64, missing: u64, method: &[u8]) -> Refusal
     Refusal { reason, reply, detail, missing }
 }
 
-/// Reasons 6 to 15.
-fn request(lines: Lines) -> Result<Passed, Found> {
-    let column = profile::column_of_method(&lines.method).ok_or(found(6, 0))?;
-    request_uri(&lines.uri)?;
-    let fields = kept_fields(&lines, column);
-    repeats(&fields)?;
-    malformed(&fields, &lines.method)?;
-    let body = cut_body(&fields, &lines.rest)?;
-    let column = column_with_re(column, &fields);
-    missing(&fields, column, body.is_empty())?;
-    hops(&fields)?;
-    required_tags(&fields)?;
-    called_number(&lines.uri, column)?;
-    Ok(Passed { method: lines.method, uri: lines.uri, fields, body })
-}
-
-/// Reason 7: "Request-URI scheme (all before the first colon) is a token but neither sip nor tel
-/// in any case". Reason 8: "Request-URI otherwise malformed".
-fn request_uri(text: &[u8]) -> Result<(), Found> {
-    if let Some(colon) = text.iter().position(|&byte| byte == b':') {
-        let scheme = &text[..colon];
-        let known = same_in_any_case(scheme, b"sip") || same_in_any_case(scheme, b"tel");
-        if is_whole_token(scheme) && !known {
-            return Err(found(7, 0));
-        }
-    }
-    match uri::whole(text) {
-        Some(_) => Ok(()),
-        None => Err(found(8, 0)),
+/// The column that says what a message ignores, where it has one. "Both INVITE columns ignore the same."
+pub fn column(lines: &Lines) -> Option<Column> {
+    match &lines.start {
+        Start::Request { method, .. } => profile::column_of_request(method),
+        Start::Status { code, .. } => response::column(lines, code),
     }
 }
 
-/// "Reasons 9 to 14 look only at fields not ignored." Both INVITE columns ignore the same.
-fn kept_fields(lines: &Lines, column: Column) -> Vec<Kept> {
+/// "Reasons 9 to 14 look only at fields not ignored."
+pub fn kept_fields(lines: &Lines, column: Column) -> Vec<Kept> {
     let mut kept = Vec::new();
     for field in &lines.fields {
         let number = profile::number_of_name(&field.name);
@@ -118,13 +101,13 @@ fn kept_fields(lines: &Lines, column: Column) -> Vec<Kept> {
     kept
 }
 
-fn first_value(fields: &[Kept], number: u64) -> Option<&Canonical> {
+pub fn first_value(fields: &[Kept], number: u64) -> Option<&Canonical> {
     fields.iter().find(|field| field.number == number).map(|field| &field.value)
 }
 
 /// Reason 9: "a field without "yes" comes again"; detail "the number of the first field that
 /// repeats an earlier one".
-fn repeats(fields: &[Kept]) -> Result<(), Found> {
+pub fn repeats(fields: &[Kept]) -> Result<(), Found> {
     for (place, field) in fields.iter().enumerate() {
         let may = profile::row_of_number(field.number).is_some_and(|row| row.repeats);
         let again = first_value(&fields[..place], field.number).is_some();
@@ -136,7 +119,7 @@ fn repeats(fields: &[Kept]) -> Result<(), Found> {
 }
 
 /// Reason 10: "a value malformed"; detail the number "of the first malformed one".
-fn malformed(fields: &[Kept], method: &[u8]) -> Result<(), Found> {
+pub fn malformed(fields: &[Kept], method: &[u8]) -> Result<(), Found> {
     for field in fields {
         if !values::is_well_formed(field.number, &field.value.bytes, method) {
             return Err(found(10, field.number));
@@ -146,7 +129,7 @@ fn malformed(fields: &[Kept], method: &[u8]) -> Result<(), Found> {
 }
 
 /// Reason 11: "Content-Length exceeds the bytes there"; else the body after cutting.
-fn cut_body(fields: &[Kept], rest: &[u8]) -> Result<Vec<u8>, Found> {
+pub fn cut_body(fields: &[Kept], rest: &[u8]) -> Result<Vec<u8>, Found> {
     let given = first_value(fields, 8).and_then(|value| values::content_length(&value.bytes));
     let length = given.unwrap_or(rest.len() as u64);
     if length > rest.len() as u64 {
@@ -155,21 +138,9 @@ fn cut_body(fields: &[Kept], rest: &[u8]) -> Result<Vec<u8>, Found> {
     Ok(rest[..length as usize].to_vec())
 }
 
-/// "An INVITE uses "re" exactly if its To has a tag."
-fn column_with_re(column: Column, fields: &[Kept]) -> Column {
-    let to_has_tag = first_value(fields, 4)
-        .and_then(|value| address::address(&value.bytes))
-        .is_some_and(|to| to.tag().is_some());
-    if column == Column::Invite && to_has_tag {
-        Column::Re
-    } else {
-        column
-    }
-}
-
 /// Reason 12: detail "the lowest missing number, and the missing count says how many numbers are
 /// missing".
-fn missing(fields: &[Kept], column: Column, body_empty: bool) -> Result<(), Found> {
+pub fn missing(fields: &[Kept], column: Column, body_empty: bool) -> Result<(), Found> {
     let mut numbers = Vec::new();
     for row in &ROWS {
         if profile::is_mandatory(row, column, body_empty) && first_value(fields, row.number).is_none() {
@@ -180,36 +151,4 @@ fn missing(fields: &[Kept], column: Column, body_empty: bool) -> Result<(), Foun
         Some(&lowest) => Err(Found { reason: 12, detail: lowest, missing: numbers.len() as u64 }),
         None => Ok(()),
     }
-}
-
-/// Reason 13: "Max-Forwards is 0".
-fn hops(fields: &[Kept]) -> Result<(), Found> {
-    match first_value(fields, 2).and_then(|value| values::max_forwards(&value.bytes)) {
-        Some(0) => Err(found(13, 0)),
-        _ => Ok(()),
-    }
-}
-
-/// Reason 14: "a required tag we lack"; detail "the place of the first lacking tag, from 1, over
-/// all Require fields".
-fn required_tags(fields: &[Kept]) -> Result<(), Found> {
-    let mut place = 0;
-    for field in fields.iter().filter(|field| field.number == 14) {
-        for tag in values::require(&field.value.bytes).unwrap_or_default() {
-            place += 1;
-            if !values::is_tag_we_have(&tag) {
-                return Err(found(14, place));
-            }
-        }
-    }
-    Ok(())
-}
-
-/// Reason 15: "Called number (initial INVITE only)", read out of the Request-URI.
-fn called_number(text: &[u8], column: Column) -> Result<(), Found> {
-    let good = uri::whole(text).is_some_and(|uri| uri::is_called_number(&uri));
-    if column == Column::Invite && !good {
-        return Err(found(15, 0));
-    }
-    Ok(())
 }

@@ -1,4 +1,5 @@
-//! A second, plain implementation of the request screen, written from the build description alone ("the page").
+//! A second, plain implementation of the screen, written from the build description ("the page"), the change requests ("CR") and
+//! docs/DECISIONS.md, not from the proved one.
 //! It works value by value on canonical copies, allocates freely, and serves as a check of the proved one.
 //!
 //! Standard library only. From the repository:
@@ -23,6 +24,9 @@ pub mod output;
 pub mod profile;
 pub mod readings;
 pub mod recorded;
+pub mod request;
+pub mod response;
+pub mod start;
 pub mod uri;
 pub mod values;
 
@@ -71,7 +75,8 @@ pub fn screen(message: &[u8], side: u64, out: &mut [u8]) -> Verdict {
     };
     let outgoing = output::message(&passed, side);
     if outgoing.len() > out.len() {
-        return Verdict::Refused(judge::refusal(16, outgoing.len() as u64, 0, &passed.method));
+        let found = judge::found(16, outgoing.len() as u64);
+        return Verdict::Refused(judge::refusal(found, &passed.start));
     }
     out[..outgoing.len()].copy_from_slice(&outgoing);
     Verdict::Accepted(outgoing.len())

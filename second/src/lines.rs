@@ -1,7 +1,7 @@
 //! The page's section "Lines": start line, fields, empty line, and the canonical value.
 
-use crate::classes::{after_blanks, is_blank, is_space, is_token, is_value, is_visible, is_whole_token};
-use crate::classes::{same_in_any_case, span};
+use crate::classes::{after_blanks, is_blank, is_space, is_token, is_value, span};
+use crate::start::Start;
 
 /// "over 8,192 bytes" (reason 2).
 pub const MOST_BYTES: usize = 8192;
@@ -28,8 +28,7 @@ pub struct Field {
 /// A message whose lines are well shaped.
 #[derive(Clone, Debug)]
 pub struct Lines {
-    pub method: Vec<u8>,
-    pub uri: Vec<u8>,
+    pub start: Start,
     pub fields: Vec<Field>,
     /// All bytes after the empty line.
     pub rest: Vec<u8>,
@@ -40,32 +39,19 @@ pub fn read(message: &[u8]) -> Result<Lines, u64> {
     if message.len() > MOST_BYTES {
         return Err(2);
     }
-    let (method, uri, after_start) = start_line(message).ok_or(3u64)?;
+    let (start, after_start) = start_line(message).ok_or(3u64)?;
     let (fields, after_empty) = all_fields(message, after_start).ok_or(4u64)?;
     if fields.len() > MOST_FIELDS {
         return Err(5);
     }
     let rest = message[after_empty..].to_vec();
-    Ok(Lines { method, uri, fields, rest })
+    Ok(Lines { start, fields, rest })
 }
 
-/// "method (token, 1 to 32 bytes), one space, Request-URI (1 to 256 bytes, each 33 to 126), one
-/// space, `SIP/2.0`, CRLF". Hands back method, Request-URI and the place past the CRLF.
-fn start_line(message: &[u8]) -> Option<(Vec<u8>, Vec<u8>, usize)> {
+/// The start line up to the first CRLF, and the place past that.
+fn start_line(message: &[u8]) -> Option<(Start, usize)> {
     let end = message.windows(2).position(|pair| pair == b"\r\n")?;
-    let pieces: Vec<&[u8]> = message[..end].split(|&byte| byte == b' ').collect();
-    if pieces.len() != 3 {
-        return None;
-    }
-    let (method, uri, version) = (pieces[0], pieces[1], pieces[2]);
-    let method_good = is_whole_token(method) && method.len() <= 32;
-    let uri_good = !uri.is_empty() && uri.len() <= 256 && uri.iter().all(|&byte| is_visible(byte));
-    let version_good = same_in_any_case(version, b"SIP/2.0");
-    if method_good && uri_good && version_good {
-        Some((method.to_vec(), uri.to_vec(), end + 2))
-    } else {
-        None
-    }
+    Start::read(&message[..end]).map(|start| (start, end + 2))
 }
 
 /// All fields from `place` on, and the place past the empty line. None is bad shape or no empty line.

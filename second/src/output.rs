@@ -11,7 +11,8 @@ const ANONYMOUS: &[u8] = b"\"Anonymous\" <sip:anonymous@anonymous.invalid>;tag="
 /// "Start line, then the fields not ignored in message order; then the empty line and the body."
 pub fn message(passed: &Passed, side: u64) -> Vec<u8> {
     let hide = side == 1 && passed.is_withheld();
-    let mut out = start_line(passed);
+    let mut out = passed.start.written();
+    out.extend(b"\r\n");
     for field in &passed.fields {
         // "P-Asserted-Identity is dropped"
         if !(hide && field.number == 15) {
@@ -20,14 +21,6 @@ pub fn message(passed: &Passed, side: u64) -> Vec<u8> {
     }
     out.extend(b"\r\n");
     out.extend(&passed.body);
-    out
-}
-
-fn start_line(passed: &Passed) -> Vec<u8> {
-    let mut out = passed.method.clone();
-    out.push(b' ');
-    out.extend(&passed.uri);
-    out.extend(b" SIP/2.0\r\n");
     out
 }
 

@@ -55,7 +55,7 @@ const EMPTY: Part = Part { from_trunk: false, start: 0, length: 0 };
 
 /// "the P-Asserted-Identity digits with their `+` where the message has that field not ignored, else
 /// the trunk number"; empty "exactly if the trunk number lacks the P-Asserted-Identity form or the
-/// message has a reason of 2 to 15 on side 0".
+/// message has a reason of 2 to 15 on side 0". CR 1: "At 17 the calling number is empty."
 pub fn calling_number(message: &[u8], trunk: &[u8]) -> Part {
     if !uri::is_full_number(trunk) {
         return EMPTY;

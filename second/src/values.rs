@@ -37,15 +37,23 @@ pub fn is_call_id(value: &[u8]) -> bool {
     (1..=128).contains(&value.len()) && value.iter().all(|&byte| is_visible(byte))
 }
 
-/// "1 to 10 digits, below 2,147,483,648, then one or more spaces or tabs, then the method of the
+/// CSeq: "1 to 10 digits, below 2,147,483,648, then one or more spaces or tabs, then the method of the
 /// start line"
 pub fn is_cseq(value: &[u8], method: &[u8]) -> bool {
+    after_sequence_number(value) == Some(method)
+}
+
+/// CR 1: "The method is the token that ends the CSeq value."
+pub fn method_of_cseq(value: &[u8]) -> Option<&[u8]> {
+    after_sequence_number(value).filter(|name| is_whole_token(name))
+}
+
+/// What follows the number and the spaces or tabs of a CSeq.
+fn after_sequence_number(value: &[u8]) -> Option<&[u8]> {
     let (digits, rest) = span(value, is_digit);
     let (blanks, name) = span(rest, is_blank);
-    match number_of_digits(digits, 10) {
-        Some(number) => number < 2_147_483_648 && !blanks.is_empty() && name == method,
-        None => false,
-    }
+    let number = number_of_digits(digits, 10)?;
+    (number < 2_147_483_648 && !blanks.is_empty()).then_some(name)
 }
 
 /// Privacy: "one or more tokens parted by `;`, spaces or tabs free around it".

@@ -11,8 +11,24 @@ const COMPACT: [(&str, &str); 8] = [
 const NOT_LISTED: [&str; 12] = [
     "X-Relay-Mode", "Via-Extra", "Vi", "Subject", "s", "e", "a", "P-Asserted-Identit", "Privacys", "re", "!%*_+`'~", "0",
 ];
-/// Names that the method's columns ignore.
-fn ignored_by(method: &str) -> &'static [&'static str] {
+const STATUSES: [&str; 12] = ["200 OK", "200 ", "299 x", "199 x", "300 x", "100 Trying", "180 \t", "404 a  b", "699 x", "099 x", "700 ", "000 x"];
+
+/// Names that the column of the message ignores: by its kind, and by its method.
+fn ignored_by(start: &str, method: &str) -> &'static [&'static str] {
+    if start.starts_with("SIP/2.0 ") { ignored_in_response(method) } else { ignored_in_request(method) }
+}
+
+/// At 17 too these are the fields of the method that the first CSeq names; where it names none known, only names not listed are ignored.
+fn ignored_in_response(method: &str) -> &'static [&'static str] {
+    match method {
+        "INVITE" | "BYE" | "OPTIONS" => &["Max-Forwards", "Route", "P-Asserted-Identity", "Privacy"],
+        "CANCEL" => &["Max-Forwards", "Route", "P-Asserted-Identity", "Privacy", "Contact", "m", "Content-Type", "c", "Reason", "Allow",
+            "Supported", "k", "Require", "Accept", "Record-Route"],
+        _ => &[],
+    }
+}
+
+fn ignored_in_request(method: &str) -> &'static [&'static str] {
     match method {
         "INVITE" => &["Reason"],
         "ACK" => &["Reason", "Allow", "Supported", "k", "Require", "P-Asserted-Identity", "Privacy", "Accept", "Record-Route"],
@@ -27,7 +43,7 @@ fn ignored_by(method: &str) -> &'static [&'static str] {
 /// A whole field: its name, and every byte after the name up to past the last CRLF.
 type Whole = (String, Vec<u8>);
 
-const VALUES: [(&str, &[&str]); 16] = [
+const VALUES: [(&str, &[&str]); 18] = [
     ("Via", &["x", "x", "", "a \r\n b"]),
     ("Max-Forwards", &["70", "1", "070", "0", "256", "\r\n 9"]),
     ("From", &["<sip:a@h>;tag=1", "sip:a@h ; TAG = z", "\"A\r\n B\" <tel:1>;tag=q", "<sip:a@h>"]),
@@ -44,6 +60,8 @@ const VALUES: [(&str, &[&str]); 16] = [
     ("P-Asserted-Identity", &["<sip:+1234567@h>", "tel:+1234567", "<sip:1@h>"]),
     ("Privacy", &["id", "none", "id;x", ";"]),
     ("Reason", &["x", "y", ""]),
+    ("Accept", &["a/b", ""]),
+    ("Record-Route", &["<sip:r>", "r", ""]),
 ];
 
 /// A value for the field: mostly one of the first two, which are good.
@@ -65,8 +83,7 @@ fn random_fields(dice: &mut Dice, method: &str) -> Vec<Whole> {
     fields
 }
 
-fn added_field(dice: &mut Dice, method: &str) -> Whole {
-    let listed = ignored_by(method);
+fn added_field(dice: &mut Dice, listed: &[&str]) -> Whole {
     let name = if listed.is_empty() || dice.one_in(2) { *dice.pick(&NOT_LISTED) } else { *dice.pick(listed) };
     let mut text = dice.pick(&[":", " :", "\t: "]).as_bytes().to_vec();
     for _ in 0..dice.below(20) {
@@ -107,7 +124,7 @@ fn joined(start: &[u8], fields: &[Whole], rest: &[u8]) -> Vec<u8> {
     out
 }
 
-fn change(dice: &mut Dice, fields: &[Whole], method: &str) -> Vec<Whole> {
+fn change(dice: &mut Dice, fields: &[Whole], listed: &[&str]) -> Vec<Whole> {
     let mut changed = fields.to_vec();
     for field in changed.iter_mut() {
         if dice.one_in(2) {
@@ -115,34 +132,94 @@ fn change(dice: &mut Dice, fields: &[Whole], method: &str) -> Vec<Whole> {
         }
     }
     for _ in 0..dice.below(8) {
-        let added = added_field(dice, method);
+        let added = added_field(dice, listed);
         changed.insert(dice.below(changed.len() + 1), added);
     }
     changed
 }
 
-#[test]
-fn insertions_and_renamings_change_nothing() {
-    let mut dice = Dice::new(3);
-    let mut seen = [0u32; 17];
+/// Draws a message and a changed one for some rounds; how often each reason was met.
+fn compared(dice: &mut Dice, start_line: impl Fn(&mut Dice, &str) -> String, methods: &[&str]) -> [u32; 18] {
+    let mut seen = [0; 18];
     for _ in 0..20_000 {
-        let method = *dice.pick(&METHODS);
-        let uri = if dice.one_in(8) { *dice.pick(&["sip:h", "x:y", "*", "sip:1@h"]) } else { URI };
-        let start = format!("{method} {uri} SIP/2.0\r\n").into_bytes();
-        let fields = random_fields(&mut dice, method);
+        let method = *dice.pick(methods);
+        let start = start_line(dice, method);
+        let fields = random_fields(dice, method);
         let rest = dice.pick(&["", "", "abc", " \r\nX: y\r\n\r\n"]).as_bytes();
-        let one = joined(&start, &fields, rest);
-        let other = joined(&start, &change(&mut dice, &fields, method), rest);
+        let listed = ignored_by(&start, first_method(&start, &fields, method));
+        let one = joined(start.as_bytes(), &fields, rest);
+        let other = joined(start.as_bytes(), &change(dice, &fields, listed), rest);
         let side = if dice.one_in(40) { 2 } else { dice.below(2) as u64 };
         let room = if dice.one_in(20) { 40 } else { 9216 };
         let answer = run_in(&one, side, room);
         assert_eq!(answer, run_in(&other, side, room), "{}\n{}", String::from_utf8_lossy(&one), String::from_utf8_lossy(&other));
         seen[answer.0[0] as usize] += 1;
     }
+    seen
+}
+
+/// The method of a request; for a response that of its first CSeq, or none that is known.
+fn first_method<'a>(start: &str, fields: &[Whole], method: &'a str) -> &'a str {
+    let first = fields.iter().find(|(name, _)| name == "CSeq");
+    let names_it = first.is_some_and(|(_, text)| text.trim_ascii_end().ends_with(method.as_bytes()));
+    if start.starts_with("SIP/2.0 ") && !names_it { "" } else { method }
+}
+
+#[test]
+fn insertions_and_renamings_change_nothing_in_requests() {
+    let start = |dice: &mut Dice, method: &str| {
+        let uri = if dice.one_in(8) { *dice.pick(&["sip:h", "x:y", "*", "sip:1@h"]) } else { URI };
+        format!("{method} {uri} SIP/2.0\r\n")
+    };
+    let seen = compared(&mut Dice::new(3), start, &METHODS);
     // The messages reach acceptance and every reason that well shaped lines within the sizes can have.
     for reason in [0, 1, 6, 7, 8, 9, 10, 11, 12, 13, 14, 15, 16] {
         assert!(seen[reason] > 20, "reason {reason}: {seen:?}");
     }
+}
+
+#[test]
+fn insertions_and_renamings_change_nothing_in_responses() {
+    let start = |dice: &mut Dice, _: &str| {
+        let status = if dice.one_in(2) { "200 OK" } else { *dice.pick(&STATUSES) };
+        format!("SIP/2.0 {status}\r\n")
+    };
+    let seen = compared(&mut Dice::new(4), start, &METHODS);
+    for reason in [0, 1, 6, 9, 10, 11, 12, 16, 17] {
+        assert!(seen[reason] > 20, "reason {reason}: {seen:?}");
+    }
+}
+
+/// What one column ignores another one does not: the sets go by kind and method.
+#[test]
+fn the_sets_go_by_kind_and_method() {
+    let sent = |start: &str, method: &str, name: &str| {
+        let mut fields = response_base(method);
+        add(&mut fields, "Max-Forwards", b"9");
+        fields.retain(|(own, _)| own != name);
+        add(&mut fields, name, b"x");
+        let out = run(&build_from(start, &fields, b""), 1).1;
+        String::from_utf8(out).unwrap().contains(&format!("\r\n{name}: x\r\n"))
+    };
+    for name in ["Contact", "Route", "Reason", "Allow", "Supported", "Accept", "Record-Route", "Content-Type"] {
+        for method in ["INVITE", "BYE", "CANCEL", "OPTIONS"] {
+            assert_eq!(sent("SIP/2.0 200 OK", method, name), !ignored_in_response(method).contains(&name), "{name} {method}");
+            if method != "INVITE" {
+                assert_eq!(sent(&format!("{method} sip:h SIP/2.0"), method, name), !ignored_in_request(method).contains(&name), "{name} {method}");
+            }
+        }
+    }
+}
+
+/// The first CSeq decides what is ignored, so no CSeq may be added before it: no column ignores CSeq.
+#[test]
+fn cseq_is_ignored_nowhere() {
+    let mut fields = response_base("INVITE");
+    let plain = run(&build_from("SIP/2.0 200 OK", &fields, b""), 1);
+    fields.insert(0, ("CSeqs".into(), b"1 CANCEL".to_vec()));
+    assert_eq!(run(&build_from("SIP/2.0 200 OK", &fields, b""), 1), plain);
+    fields[0].0 = "CSeq".into();
+    assert_eq!(numbers(&build_from("SIP/2.0 200 OK", &fields, b"")), [9, 0, 6, 0]);
 }
 
 #[test]

@@ -25,11 +25,11 @@ fn start_line_good() {
 
 #[test]
 fn start_line_bad() {
-    let bad: [&[u8]; 16] = [
+    let bad: [&[u8]; 15] = [
         b"", b" ", b"INVITE", b"INVITE sip:12@h", b"INVITE  sip:12@h SIP/2.0", b"INVITE sip:12@h  SIP/2.0",
         b" INVITE sip:12@h SIP/2.0", b"INVITE sip:12@h SIP/2.0 ", b"INVITE sip:12@h SIP/2.1", b"INVITE\tsip:12@h SIP/2.0",
         b"INVITE sip:12@h SIP/2.0\r", b"INVITE sip:12@h SIP/2.0\n", b"INV(TE sip:12@h SIP/2.0", b"INVITE sip:\x7f@h SIP/2.0",
-        b"INVITE sip:\x80@h SIP/2.0", b"SIP/2.0 200 OK",
+        b"INVITE sip:\x80@h SIP/2.0",
     ];
     for line in bad {
         assert_eq!(start(line), 3, "{}", String::from_utf8_lossy(line));
@@ -46,6 +46,55 @@ fn start_line_lengths() {
     assert_eq!((method(0), method(1), method(32), method(33)), (3, 6, 6, 3));
     let uri = |n: usize| start(format!("INVITE {} SIP/2.0", "!".repeat(n)).as_bytes());
     assert_eq!((uri(0), uri(1), uri(256), uri(257)), (3, 8, 8, 3));
+}
+
+#[test]
+fn status_line_good() {
+    let good: [&[u8]; 10] = [
+        b"SIP/2.0 200 OK", b"sip/2.0 200 OK", b"sIp/2.0 100 Trying", b"SIP/2.0 200 ", b"SIP/2.0 699  ", b"SIP/2.0 200 \t", b"SIP/2.0 486 Busy Here ",
+        b"SIP/2.0 404 \xff\x80~!\"\\", b"SIP/2.0 200 SIP/2.0", b"SIP/2.0 300 a SIP/2.0",
+    ];
+    for line in good {
+        // No CSeq: the line was read, and its status is one of 100 to 699.
+        assert_eq!(start(line), 6, "{}", String::from_utf8_lossy(line));
+    }
+    for line in [&b"SIP/2.0 099 x"[..], b"SIP/2.0 000 x", b"SIP/2.0 700 ", b"SIP/2.0 999 x"] {
+        assert_eq!(start(line), 17);
+    }
+}
+
+#[test]
+fn status_line_bad() {
+    let bad: [&[u8]; 28] = [
+        b"SIP/2.0", b"SIP/2.0 ", b"SIP/2.0 200", b"SIP/2.0  200 OK", b"SIP/2.0\t200 OK", b"SIP/2.0 200\tOK", b"SIP/2.0 20 OK", b"SIP/2.0 2000 OK",
+        b"SIP/2.0 2 0 OK", b"SIP/2.0 2x0 OK", b"SIP/2.0 +20 OK", b"SIP/2.0 -20 OK", b"SIP/2.0 OK 200", b"SIP/2.1 200 OK", b"SIP/20 200 OK", b"SIP2.0 200 OK",
+        b"SIP/2.0x200 OK", b"SIP/2.00 200 OK", b" SIP/2.0 200 OK", b"HTTP/1.1 200 OK", b"SIP/2.0 200 \x7f", b"SIP/2.0 200 \x00", b"SIP/2.0 200 a\rb",
+        b"SIP/2.0 200 a\nb", b"SIP/2.0 200 OK\r", b"SIP/2.0 \xb2\xb2\xb2 OK", b"SIP/2.0 SIP/2.0 SIP/2.0", b"200 OK SIP/2.0 x",
+    ];
+    for line in bad {
+        assert_eq!(start(line), 3, "{}", String::from_utf8_lossy(line));
+    }
+    assert_eq!(numbers(b"SIP/2.0 200 OK")[0], 3);
+    assert_eq!(numbers(b"SIP/2.0 200 OK\n\n")[0], 3);
+    assert_eq!(numbers(b"\r\nSIP/2.0 200 OK\r\n\r\n")[0], 3);
+    // A request whose method is `200`.
+    assert_eq!(start(b"200 OK SIP/2.0"), 6);
+    assert_eq!(numbers(b"200 OK SIP/2.0\r\n\r\n"), [6, 405, 0, 0]);
+}
+
+#[test]
+fn every_byte_of_a_status_line() {
+    for byte in 0..=255u8 {
+        let line = |front: &[u8], back: &[u8]| start(&[front, &[byte], back].concat());
+        let good = byte == 9 || (32..=126).contains(&byte) || byte >= 128;
+        assert_eq!(line(b"SIP/2.0 200 a", b"b"), if good { 6 } else { 3 }, "byte {byte}");
+        assert_eq!(line(b"SIP/2.0 200 ", b""), if good { 6 } else { 3 }, "byte {byte}");
+        for (front, back) in [(&b"SIP/2.0 "[..], &b"00 x"[..]), (b"SIP/2.0 2", b"0 x"), (b"SIP/2.0 20", b" x")] {
+            assert_eq!(line(front, back) != 3, byte.is_ascii_digit(), "byte {byte}");
+        }
+        assert_eq!(line(b"SIP/2.0", b"200 x") != 3, byte == b' ');
+        assert_eq!(line(b"SIP/2.0 200", b"x") != 3, byte == b' ');
+    }
 }
 
 #[test]

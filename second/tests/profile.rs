@@ -1,41 +1,65 @@
-//! "The profile": every row in every column, and "The outgoing message".
-#![allow(clippy::needless_range_loop)]
+//! "The profile" with CR 1's columns: every row in every column, and "The outgoing message".
 mod common;
 use common::*;
 
-/// The page's table once more: number, field, a good value, and the six columns.
+/// The page's table once more: number, field, a good value, the six columns, then responses to INVITE with 200, to CANCEL, and others.
 const TABLE: [(u64, &str, &str, &str); 18] = [
-    (1, "Via", "x", "M M M M M M"),
-    (2, "Max-Forwards", "9", "M M M M M M"),
-    (3, "From", "<sip:a@h>;tag=1", "M M M M M M"),
-    (4, "To", "<sip:a@h>", "M M M M M M"),
-    (5, "Call-ID", "x", "M M M M M M"),
-    (6, "CSeq", "1 METHOD", "M M M M M M"),
-    (7, "Contact", "x", "M M S - - S"),
-    (8, "Content-Length", "0", "S S S S S S"),
-    (9, "Content-Type", "x", "B B B B - B"),
-    (10, "Route", "x", "S S S S S S"),
-    (11, "Reason", "x", "- - - S S -"),
-    (12, "Allow", "x", "M S - S - S"),
-    (13, "Supported", "x", "S S - S - S"),
-    (14, "Require", "timer", "S S - S - S"),
-    (15, "P-Asserted-Identity", "<tel:+1234567>", "M S - - - -"),
-    (16, "Privacy", "x", "S S - - - -"),
-    (17, "Accept", "x", "S S - - - S"),
-    (18, "Record-Route", "x", "S S - - - -"),
+    (1, "Via", "x", "M M M M M M M M M"),
+    (2, "Max-Forwards", "9", "M M M M M M - - -"),
+    (3, "From", "<sip:a@h>;tag=1", "M M M M M M M M M"),
+    (4, "To", "<sip:a@h>", "M M M M M M M M M"),
+    (5, "Call-ID", "x", "M M M M M M M M M"),
+    (6, "CSeq", "1 METHOD", "M M M M M M M M M"),
+    (7, "Contact", "x", "M M S - - S M - S"),
+    (8, "Content-Length", "0", "S S S S S S S S S"),
+    (9, "Content-Type", "x", "B B B B - B B - B"),
+    (10, "Route", "x", "S S S S S S - - -"),
+    (11, "Reason", "x", "- - - S S - S - S"),
+    (12, "Allow", "x", "M S - S - S S - S"),
+    (13, "Supported", "x", "S S - S - S S - S"),
+    (14, "Require", "timer", "S S - S - S S - S"),
+    (15, "P-Asserted-Identity", "<tel:+1234567>", "M S - - - - - - -"),
+    (16, "Privacy", "x", "S S - - - - - - -"),
+    (17, "Accept", "x", "S S - - - S S - S"),
+    (18, "Record-Route", "x", "S S - - - - S - S"),
 ];
 
-const COLUMNS: [&str; 6] = ["INVITE", "re", "ACK", "BYE", "CANCEL", "OPTIONS"];
+/// Each column with a start line that leads to it, and the method that its CSeq names. From the seventh on they are of responses.
+const COLUMNS: [(&str, &str, &str); 13] = [
+    ("INVITE", "INVITE sip:12@h SIP/2.0", "INVITE"),
+    ("re", "INVITE sip:h SIP/2.0", "INVITE"),
+    ("ACK", "ACK sip:h SIP/2.0", "ACK"),
+    ("BYE", "BYE sip:h SIP/2.0", "BYE"),
+    ("CANCEL", "CANCEL sip:h SIP/2.0", "CANCEL"),
+    ("OPTIONS", "OPTIONS sip:h SIP/2.0", "OPTIONS"),
+    ("to INVITE", "SIP/2.0 200 OK", "INVITE"),
+    ("to CANCEL", "SIP/2.0 200 OK", "CANCEL"),
+    ("other", "SIP/2.0 200 OK", "BYE"),
+    ("other", "SIP/2.0 199 ", "INVITE"),
+    ("other", "SIP/2.0 300  x\t ", "INVITE"),
+    ("other", "SIP/2.0 299 \u{e9}", "OPTIONS"),
+    ("to CANCEL", "SIP/2.0 699 no", "CANCEL"),
+];
 
-fn method_of(column: usize) -> &'static str {
-    if column == 1 { "INVITE" } else { COLUMNS[column] }
+/// The place of a column among the table's nine.
+fn letters_at(column: usize) -> usize {
+    match column {
+        9..=11 => 8,
+        12 => 7,
+        _ => column,
+    }
+}
+
+/// The reply of a refusal that a request would have with 400.
+fn reply(column: usize) -> u64 {
+    if column == 2 || column > 5 { 0 } else { 400 }
 }
 
 /// All fields of the table but one, for a column.
 fn all_but(column: usize, left_out: u64) -> Fields {
     let mut fields = Vec::new();
     for (number, name, value, _) in TABLE {
-        let value = value.replace("METHOD", method_of(column));
+        let value = value.replace("METHOD", COLUMNS[column].2);
         let value = if number == 4 && column == 1 { format!("{value};tag=2") } else { value };
         if number != left_out {
             fields.push((name.to_string(), value.into_bytes()));
@@ -45,17 +69,16 @@ fn all_but(column: usize, left_out: u64) -> Fields {
 }
 
 fn letter(columns: &str, column: usize) -> &str {
-    columns.split(' ').nth(column).unwrap()
+    columns.split(' ').nth(letters_at(column)).unwrap()
 }
 
 #[test]
 fn ignored_fields_are_dropped_and_the_others_kept() {
-    for column in 0..6 {
-        let method = method_of(column);
-        let message = build(method, URI, &all_but(column, 0), b"");
+    for (column, (name, start, _)) in COLUMNS.iter().enumerate() {
+        let message = build_from(start, &all_but(column, 0), b"");
         let (numbers, out) = run(&message, 1);
-        assert_eq!(numbers[0], 0, "{}", COLUMNS[column]);
-        let mut wanted = format!("{method} {URI} SIP/2.0\r\n").into_bytes();
+        assert_eq!(numbers[0], 0, "{name}");
+        let mut wanted = format!("{start}\r\n").into_bytes();
         for ((_, name, _, columns), (_, value)) in TABLE.iter().zip(all_but(column, 0)) {
             let value = if *name == "Max-Forwards" { b"8".to_vec() } else { value };
             if letter(columns, column) != "-" {
@@ -63,34 +86,37 @@ fn ignored_fields_are_dropped_and_the_others_kept() {
             }
         }
         wanted.extend(b"\r\n");
-        assert_eq!(out, wanted, "{}", COLUMNS[column]);
+        assert_eq!(out, wanted, "{name}");
     }
 }
 
 #[test]
 fn each_field_missing_in_each_column() {
-    for column in 0..6 {
+    for (column, (name, start, _)) in COLUMNS.iter().enumerate() {
         for (number, _, _, columns) in TABLE {
             // Without its To an INVITE is an initial one; the table's To has no tag there.
-            let message = build(method_of(column), URI, &all_but(column, number), b"");
-            let reply = if column == 2 { 0 } else { 400 };
-            let wanted = if letter(columns, column) == "M" { [12, reply, number, 1] } else { [0, 0, 0, 0] };
-            assert_eq!(numbers(&message), wanted, "{} {number}", COLUMNS[column]);
+            let message = build_from(start, &all_but(column, number), b"");
+            let wanted = match letter(columns, column) {
+                // Without CSeq a response has no method.
+                "M" if number == 6 && column > 5 => [6, 0, 0, 0],
+                "M" => [12, reply(column), number, 1],
+                _ => [0, 0, 0, 0],
+            };
+            assert_eq!(numbers(&message), wanted, "{name} {number}");
         }
     }
 }
 
 #[test]
 fn content_type_is_due_with_a_body_after_cutting() {
-    for column in 0..6 {
-        let reply = if column == 2 { 0 } else { 400 };
+    for (column, (name, start, _)) in COLUMNS.iter().enumerate() {
         let due = letter(TABLE[8].3, column) == "B";
         let mut fields = all_but(column, 9);
         set(&mut fields, "Content-Length", b"1");
-        let wanted = if due { [12, reply, 9, 1] } else { [0, 0, 0, 0] };
-        assert_eq!(numbers(&build(method_of(column), URI, &fields, b"xy")), wanted);
+        let wanted = if due { [12, reply(column), 9, 1] } else { [0, 0, 0, 0] };
+        assert_eq!(numbers(&build_from(start, &fields, b"xy")), wanted, "{name}");
         set(&mut fields, "Content-Length", b"0");
-        assert_eq!(numbers(&build(method_of(column), URI, &fields, b"xy")), [0, 0, 0, 0]);
+        assert_eq!(numbers(&build_from(start, &fields, b"xy")), [0, 0, 0, 0], "{name}");
     }
 }
 

@@ -120,3 +120,49 @@ fn empty_for_a_bad_trunk_or_a_refused_message() {
         assert_eq!(calling_slice(&message, TRUNK), b"");
     }
 }
+
+#[test]
+fn every_number_in_responses_also_where_ignored_or_refused() {
+    for start in ["SIP/2.0 200 OK", "SIP/2.0 180 ", "SIP/2.0 099 x", "SIP/2.0 700 x", "sip/2.0 000 "] {
+        for method in ["INVITE", "CANCEL", "BYE", "ACK", "?"] {
+            for (place, name) in NAMES.iter().enumerate() {
+                let number = place as u64 + 1;
+                let cseq = format!("1 {method}").into_bytes();
+                let fields = vec![(name.to_string(), b"a".to_vec()), ("X".into(), b"b".to_vec()), (name.to_uppercase(), b"c".to_vec()), ("CSEQ".into(), cseq.clone())];
+                let message = build_from(start, &fields, b"");
+                assert_eq!(count(&message, number), if number == 6 { 3 } else { 2 });
+                assert_eq!((reading_slice(&message, number, 1), reading_slice(&message, number, 2)), (&b"a"[..], &b"c"[..]));
+                assert_eq!(reading_slice(&message, 6, count(&message, 6) as u64), cseq);
+                assert_eq!(reading(&message, number, 4), (0, 0));
+            }
+        }
+    }
+    for bad in [&b"SIP/2.0 200\r\nVia: x\r\n\r\n"[..], b"SIP/2.0 200 OK\r\nVia: x\r\n", b"SIP/2.0 2000 OK\r\nVia: x\r\n\r\n"] {
+        assert_eq!((count(bad, 1), reading(bad, 1, 1)), (0, (0, 0)));
+    }
+}
+
+#[test]
+fn calling_number_of_responses() {
+    let trunk = Part { from_trunk: true, start: 0, length: TRUNK.len() };
+    for method in ["INVITE", "BYE", "CANCEL", "OPTIONS"] {
+        let mut fields = response_base(method);
+        let message = |start: &str, fields: &Fields| build_from(start, fields, b"");
+        assert_eq!(calling_number(&message("SIP/2.0 200 OK", &fields), TRUNK), trunk);
+        assert_eq!(calling_number(&message("SIP/2.0 200 OK", &fields), b"+123456"), EMPTY);
+        add(&mut fields, "P-Asserted-Identity", b"<sip:+1234567@h>");
+        for start in ["SIP/2.0 200 OK", "SIP/2.0 100 ", "SIP/2.0 699 x"] {
+            assert_eq!(calling_number(&message(start, &fields), TRUNK), trunk, "{start}");
+        }
+        for start in ["SIP/2.0 099 x", "SIP/2.0 700 x", "SIP/2.0 200"] {
+            assert_eq!(calling_number(&message(start, &fields), TRUNK), EMPTY, "{start}");
+        }
+        for (name, value) in [("CSeq", "1 ACK"), ("CSeq", "x"), ("From", ""), ("Content-Length", "1"), ("via", "")] {
+            let mut refused = fields.clone();
+            set(&mut refused, name, value.as_bytes());
+            assert_eq!(calling_number(&message("SIP/2.0 200 OK", &refused), TRUNK), EMPTY, "{name}");
+        }
+        add(&mut fields, "f", b"");
+        assert_eq!(calling_number(&message("SIP/2.0 200 OK", &fields), TRUNK), EMPTY);
+    }
+}

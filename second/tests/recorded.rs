@@ -1,6 +1,8 @@
 //! The recorded cases reach what they are for, and the stored files are what `second record` and `second cases` write today.
 use second::recorded::{cases, file, Case, MOST, ROOM};
-use second::{profile, screen};
+use second::start::Start;
+use second::profile::{self, Column};
+use second::{judge, lines, screen};
 use std::collections::BTreeSet;
 use std::path::Path;
 use std::process::{Command, Stdio};
@@ -18,9 +20,9 @@ fn details(answers: &[[u64; 5]], reason: u64) -> BTreeSet<u64> {
 #[test]
 fn every_reason_and_detail_is_there() {
     let all = cases();
-    assert!(all.len() >= 700);
+    assert!(all.len() >= 13_000);
     let answers: Vec<[u64; 5]> = all.iter().map(answer).collect();
-    for reason in 0..=16 {
+    for reason in 0..=17 {
         assert!(answers.iter().filter(|a| a[0] == reason).count() >= 10, "reason {reason}");
     }
     let not_repeating: BTreeSet<u64> = profile::ROWS.iter().filter(|row| !row.repeats).map(|row| row.number).collect();
@@ -34,6 +36,45 @@ fn every_reason_and_detail_is_there() {
     for (case, a) in all.iter().zip(&answers).filter(|(case, _)| case.message.starts_with(b"ACK ")) {
         assert_eq!(a[1], 0, "{case:?}");
     }
+}
+
+/// Whether the case is one of a response whose start line reads.
+fn is_response(case: &Case) -> bool {
+    let end = case.message.windows(2).position(|pair| pair == b"\r\n");
+    end.and_then(|end| Start::read(&case.message[..end])).is_some_and(|start| matches!(start, Start::Status { .. }))
+}
+
+fn column_of(case: &Case) -> Option<Column> {
+    judge::column(&lines::read(&case.message).ok()?)
+}
+
+#[test]
+fn every_reason_and_detail_of_responses_is_there() {
+    let all: Vec<Case> = cases().into_iter().filter(is_response).collect();
+    let answers: Vec<[u64; 5]> = all.iter().map(answer).collect();
+    assert!(answers.iter().all(|a| a[1] == 0), "reply always 0");
+    let reasons: BTreeSet<u64> = answers.iter().map(|a| a[0]).collect();
+    assert_eq!(reasons, BTreeSet::from([0, 1, 2, 4, 5, 6, 9, 10, 11, 12, 16, 17]));
+    assert_eq!(details(&answers, 9), BTreeSet::from([3, 4, 5, 6, 7, 8, 9]));
+    assert_eq!(details(&answers, 10), BTreeSet::from([1, 3, 4, 5, 7, 8, 9, 11, 14, 18]));
+    assert_eq!(details(&answers, 12), BTreeSet::from([1, 3, 4, 5, 7, 9]));
+    let counts: BTreeSet<u64> = answers.iter().map(|a| a[3]).collect();
+    assert_eq!(counts, (0..=6).collect());
+    for column in [Column::InviteSuccess, Column::CancelResponse, Column::OtherResponse] {
+        let accepted = all.iter().zip(&answers).filter(|(case, a)| a[0] == 0 && column_of(case) == Some(column)).count();
+        assert!(accepted >= 10, "{column:?}");
+    }
+    for code in ["099", "100", "199", "200", "299", "300", "699", "700"] {
+        let front = format!("SIP/2.0 {code} ");
+        assert!(all.iter().filter(|case| case.message.starts_with(front.as_bytes())).count() >= 10, "{code}");
+    }
+    let status_lines_refused = cases().iter().filter(|case| case.message.starts_with(b"SIP/2.0") && answer(case)[0] == 3).count();
+    assert!(status_lines_refused >= 50);
+}
+
+#[test]
+fn the_program_of_the_gate_reads_them_all() {
+    assert!(cases().len() <= 65_536);
 }
 
 #[test]

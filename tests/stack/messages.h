@@ -17,7 +17,7 @@ struct message {
 extern struct message *messages;
 extern size_t message_count;
 
-/* The build description's call, long and folded values, many fields, and every reason but 1 and 16. */
+/* The build description's call and an answer to it, long and folded values, many fields, and every reason of both but 1 and 16. */
 void make_messages(void);
 
 /* The recorded cases of a file: side, room and length (1, 2 and 2 bytes, the highest first), then the message. */

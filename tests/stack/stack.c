@@ -300,7 +300,7 @@ int main(int argc, char **argv)
     printf("a stack of %d bytes, %zu messages\n", SIZE, message_count);
     for (function = 0; function < FUNCTIONS; function++)
         failures += failures_of(function);
-    if (note->reasons != (1u << 17) - 1) {
+    if (note->reasons != (1u << 18) - 1) {
         printf("not every reason was met\n");
         failures++;
     }

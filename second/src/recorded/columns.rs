@@ -1,14 +1,17 @@
-//! "The profile": each of the 18 fields present, absent, malformed, empty, repeated or ignored in each of the six columns; all names.
+//! "The profile": each of the 18 fields present, absent, malformed, empty, repeated or ignored in each of the six columns of requests; all
+//! names. `responses` has the other columns.
 
 use super::{both_sides, untrusted, Case};
-use crate::drafts::{in_any_case, Dice, Draft, COLUMN_METHODS};
+use crate::drafts::{in_any_case, Dice, Draft, REQUESTS};
 use crate::profile::ROWS;
 
 pub fn cases() -> Vec<Case> {
-    let mut all = both_sides((0..6).flat_map(|column| [Draft::least(column).bytes(), Draft::full(column).bytes()]).collect());
-    all.extend(untrusted((0..6).flat_map(one_column).collect()));
-    all.extend(untrusted(bodies()));
-    all.extend(untrusted(missing_numbers()));
+    let mut all = both_sides(REQUESTS.flat_map(|column| [Draft::least(column).bytes(), Draft::full(column).bytes()]).collect());
+    all.extend(untrusted(REQUESTS.flat_map(one_column).collect()));
+    all.extend(untrusted(REQUESTS.flat_map(bodies).collect()));
+    all.extend(untrusted(REQUESTS.flat_map(missing_numbers).collect()));
+    // An INVITE without a To is an initial one.
+    all.extend(untrusted(vec![Draft::full(1).without(4).without(12).bytes()]));
     all.extend(untrusted(names()));
     all.extend(both_sides(withheld()));
     all
@@ -32,7 +35,7 @@ fn bad_value(number: u64) -> &'static [u8] {
 }
 
 /// Each field: one more after the others, left out, malformed, empty, come again at the end and at the front.
-fn one_column(column: usize) -> Vec<Vec<u8>> {
+pub fn one_column(column: usize) -> Vec<Vec<u8>> {
     let full = Draft::full(column);
     let least = Draft::least(column);
     let mut out = Vec::new();
@@ -55,42 +58,36 @@ fn one_column(column: usize) -> Vec<Vec<u8>> {
 }
 
 /// Content-Type with and without a body, and a body cut away or cut short.
-fn bodies() -> Vec<Vec<u8>> {
+pub fn bodies(column: usize) -> Vec<Vec<u8>> {
     let mut out = Vec::new();
-    for column in 0..6 {
-        let least = Draft::least(column);
-        let full = Draft::full(column);
-        for draft in [least.clone(), full.clone(), full.without(9)] {
-            out.push(draft.carrying(b"xyz").bytes());
-            for length in ["0", "000", "1", "00002", "3", "4", "99999"] {
-                out.push(draft.with(8, length.as_bytes()).carrying(b"xyz").bytes());
-            }
+    let least = Draft::least(column);
+    let full = Draft::full(column);
+    for draft in [least.clone(), full.clone(), full.without(9)] {
+        out.push(draft.carrying(b"xyz").bytes());
+        for length in ["0", "000", "1", "00002", "3", "4", "99999"] {
+            out.push(draft.with(8, length.as_bytes()).carrying(b"xyz").bytes());
         }
-        out.push(least.carrying(b"\r\n\r\n").bytes());
-        out.push(least.and("c", b"x").carrying(b"\r\nVia: y\r\n\r\n").bytes());
     }
+    out.push(least.carrying(b"\r\n\r\n").bytes());
+    out.push(least.and("c", b"x").carrying(b"\r\nVia: y\r\n\r\n").bytes());
     out
 }
 
 /// Every number as the lowest one missing, and every missing count.
-fn missing_numbers() -> Vec<Vec<u8>> {
+fn missing_numbers(column: usize) -> Vec<Vec<u8>> {
     let mut out = Vec::new();
-    for column in 0..6 {
-        // From the lowest number up, fields stay away one after another; then from the highest one down.
-        let (mut rising, mut falling) = (Draft::least(column).carrying(b"x"), Draft::least(column).carrying(b"x"));
-        for number in 1..=18 {
-            rising = rising.without(number);
-            out.push(rising.bytes());
-            falling = falling.without(19 - number);
-            out.push(falling.bytes());
-        }
-        // Only two are missing.
-        for number in [1, 4, 6, 7, 9, 12] {
-            out.push(Draft::least(column).without(number).without(2).bytes());
-        }
+    // From the lowest number up, fields stay away one after another; then from the highest one down.
+    let (mut rising, mut falling) = (Draft::least(column).carrying(b"x"), Draft::least(column).carrying(b"x"));
+    for number in 1..=18 {
+        rising = rising.without(number);
+        out.push(rising.bytes());
+        falling = falling.without(19 - number);
+        out.push(falling.bytes());
     }
-    // An INVITE without a To is an initial one.
-    out.push(Draft::full(1).without(4).without(12).bytes());
+    // Only two are missing.
+    for number in [1, 4, 6, 7, 9, 12] {
+        out.push(Draft::least(column).without(number).without(2).bytes());
+    }
     out
 }
 
@@ -99,7 +96,7 @@ fn names() -> Vec<Vec<u8>> {
     let mut dice = Dice::new(18);
     let mut out = Vec::new();
     for row in &ROWS {
-        let column = if row.columns.as_bytes()[3] == b'-' { 0 } else { 3 };
+        let column = if row.requests.as_bytes()[3] == b'-' { 0 } else { 3 };
         let full = Draft::full(column);
         let place = row.number as usize - 1;
         let mut named = |name: &[u8]| {
@@ -136,7 +133,7 @@ fn names() -> Vec<Vec<u8>> {
 /// The caller withheld or not, in all columns, with tags of every place and form.
 fn withheld() -> Vec<Vec<u8>> {
     let mut out = Vec::new();
-    for (column, _) in COLUMN_METHODS.iter().enumerate() {
+    for column in REQUESTS {
         for privacy in ["id", "ID", "Id", "none;id", "id ; user", "user\t;\tiD", "identity", "i;d", "none", "id-x", "xid", "id,x", "id id", "\r\n id"] {
             out.push(Draft::full(column).with(16, privacy.as_bytes()).bytes());
         }

@@ -360,9 +360,9 @@ fn tokens() -> Vec<Vec<u8>> {
 fn precedence() -> Vec<Vec<u8>> {
     type Fault = fn(&mut Draft);
     let faults: [Fault; 9] = [
-        |d| d.method = b"INFO".to_vec(),
-        |d| d.uri = b"http://h".to_vec(),
-        |d| d.uri = b"sip:".to_vec(),
+        |d| d.set_method(b"INFO"),
+        |d| d.set_uri(b"http://h"),
+        |d| d.set_uri(b"sip:"),
         |d| d.add("CSeq", b"1 INVITE"),
         |d| d.set(5, b"x y"),
         |d| d.set(8, b"9"),

@@ -1,4 +1,4 @@
-//! The recorded cases: messages for every rule of the page on both sides of its edge.
+//! The recorded cases: messages for every rule of the page and of the change requests on both sides of its edge.
 //!
 //! `second record` writes them, `second cases` says their answers. A case is one byte for the side, two bytes for the room and two for
 //! the length of the message (high byte first), then the message. `second/regenerate` stores both in crates/vectors of the repository.
@@ -6,6 +6,8 @@
 mod columns;
 mod edges;
 mod outside;
+mod outside_responses;
+mod responses;
 pub mod reviewed;
 mod sizes;
 mod strewn;
@@ -41,7 +43,9 @@ impl Case {
 pub fn cases() -> Vec<Case> {
     let mut all: Vec<Case> = Vec::new();
     let mut seen = std::collections::HashSet::new();
-    for group in [outside::cases(), reviewed::cases(), columns::cases(), edges::cases(), sizes::cases(), strewn::cases()] {
+    let from_others = [outside::cases(), outside_responses::cases(), reviewed::cases()];
+    let own = [columns::cases(), edges::cases(), sizes::cases(), strewn::cases(), responses::cases()];
+    for group in from_others.into_iter().chain(own) {
         for case in group {
             assert!(case.message.len() <= MOST && case.room <= ROOM, "a recorded case is too long");
             if seen.insert(case.encoded()) {

@@ -4,6 +4,7 @@
 
 use super::{both_sides, Case};
 use crate::drafts::with_crlf;
+use crate::start::Start;
 use crate::{lines, profile};
 
 pub fn cases() -> Vec<Case> {
@@ -23,7 +24,7 @@ pub fn cases() -> Vec<Case> {
 /// The INVITE with what it lacks, where its lines are well shaped.
 fn made_whole(message: &[u8]) -> Vec<Vec<u8>> {
     let read = match lines::read(message) {
-        Ok(read) if read.method == b"INVITE" => read,
+        Ok(read) if matches!(&read.start, Start::Request { method, .. } if method == b"INVITE") => read,
         _ => return Vec::new(),
     };
     let mut extra = Vec::new();

@@ -1,8 +1,8 @@
-//! Edge calls that a reader of the page alone wrote, with the answers (second/reviewed/calls.txt).
+//! Edge calls that readers of the pages alone wrote, with the answers: second/reviewed/calls.txt, and responses.txt for CR 1.
 
 use super::Case;
 
-const CALLS: &str = include_str!("../../reviewed/calls.txt");
+const FILES: [&str; 2] = [include_str!("../../reviewed/calls.txt"), include_str!("../../reviewed/responses.txt")];
 
 /// A call and what its writer says of it: reason, reply, detail, missing count and length, and the outgoing message.
 pub struct Reviewed {
@@ -16,9 +16,13 @@ pub fn cases() -> Vec<Case> {
     calls().into_iter().map(|call| call.case).collect()
 }
 
-/// Each call is a paragraph.
 pub fn calls() -> Vec<Reviewed> {
-    CALLS.split("\n\n").skip(1).map(call).collect()
+    files().into_iter().flatten().collect()
+}
+
+/// Each call is a paragraph; the first one of a file says what it has.
+pub fn files() -> [Vec<Reviewed>; 2] {
+    FILES.map(|file| file.split("\n\n").skip(1).map(call).collect())
 }
 
 fn call(paragraph: &str) -> Reviewed {

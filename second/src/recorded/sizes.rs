@@ -13,7 +13,7 @@ pub fn cases() -> Vec<Case> {
 }
 
 /// The draft with fields of this name and value in front until it has so many.
-fn filled(draft: &Draft, name: &str, value: &[u8], many: usize) -> Draft {
+pub fn filled(draft: &Draft, name: &str, value: &[u8], many: usize) -> Draft {
     let mut out = draft.clone();
     while out.fields.len() < many {
         out.fields.insert(0, Whole { name: name.into(), rest: [b":", value, b"\r\n"].concat() });
@@ -90,22 +90,26 @@ fn rooms() -> Vec<Case> {
     messages.push(growing(96).bytes());
     let grown = growing(96);
     messages.push(grown.carrying(&vec![b'x'; 8192 - grown.bytes().len()]).bytes());
-    let mut all = Vec::new();
-    for message in messages {
-        for side in [0, 1] {
-            let mut buffer = vec![0; usize::from(ROOM)];
-            let need = screen(&message, u64::from(side), &mut buffer).numbers()[4] as u16;
-            let rooms = [need, need.saturating_sub(1), need.saturating_add(1).min(ROOM), 0, 1, need / 2];
-            for &room in &rooms[..if need > 5000 { 2 } else { 6 }] {
-                all.push(Case { side, room, message: message.clone() });
-            }
-        }
-    }
+    let mut all: Vec<Case> = messages.into_iter().flat_map(room_edges).collect();
     // A refusal does not look at the room.
     for room in [0, 1, 100] {
         all.push(Case { side: 1, room, message: Draft::least(0).without(7).bytes() });
         all.push(Case { side: 2, room, message: call() });
         all.push(Case { side: 1, room, message: Vec::new() });
+    }
+    all
+}
+
+/// The room exact, one byte short, one byte more, and far too small; only the first two for a long message.
+pub fn room_edges(message: Vec<u8>) -> Vec<Case> {
+    let mut all = Vec::new();
+    for side in [0, 1] {
+        let mut buffer = vec![0; usize::from(ROOM)];
+        let need = screen(&message, u64::from(side), &mut buffer).numbers()[4] as u16;
+        let rooms = [need, need.saturating_sub(1), need.saturating_add(1).min(ROOM), 0, 1, need / 2];
+        for &room in &rooms[..if need > 5000 { 2 } else { 6 }] {
+            all.push(Case { side, room, message: message.clone() });
+        }
     }
     all
 }

@@ -12,7 +12,18 @@ pub fn cases() -> Vec<Case> {
 }
 
 fn one(dice: &mut Dice) -> Case {
-    let mut draft = if dice.one_in(2) { Draft::least(dice.below(6)) } else { Draft::full(dice.below(6)) };
+    let plain = if dice.one_in(2) { Draft::least(dice.below(6)) } else { Draft::full(dice.below(6)) };
+    let mut message = strewn(dice, &plain).bytes();
+    if dice.one_in(3) {
+        damage(dice, &mut message);
+    }
+    let room = if dice.one_in(20) { dice.below(600) as u16 } else { ROOM };
+    Case { side: dice.below(2) as u8, room, message }
+}
+
+/// The same with names rewritten, fields strewn in, maybe a body, maybe a field less.
+pub fn strewn(dice: &mut Dice, plain: &Draft) -> Draft {
+    let mut draft = plain.clone();
     for field in draft.fields.iter_mut() {
         field.name = renamed(dice, &field.name);
     }
@@ -27,12 +38,7 @@ fn one(dice: &mut Dice) -> Case {
     if dice.one_in(12) {
         draft.fields.swap_remove(dice.below(draft.fields.len().max(1)));
     }
-    let mut message = draft.bytes();
-    if dice.one_in(3) {
-        damage(dice, &mut message);
-    }
-    let room = if dice.one_in(20) { dice.below(600) as u16 } else { ROOM };
-    Case { side: dice.below(2) as u8, room, message }
+    draft
 }
 
 /// A field that may or may not be listed, mostly one that the column lets repeat or ignores.
@@ -47,7 +53,7 @@ fn extra(dice: &mut Dice) -> Whole {
     Whole::new(&in_any_case(dice, name.as_bytes()), value.as_bytes())
 }
 
-fn damage(dice: &mut Dice, message: &mut Vec<u8>) {
+pub fn damage(dice: &mut Dice, message: &mut Vec<u8>) {
     for _ in 0..1 + dice.below(3) {
         let place = dice.below(message.len());
         match dice.below(4) {

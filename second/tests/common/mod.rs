@@ -25,6 +25,13 @@ pub fn base(method: &str) -> Fields {
     pairs.iter().map(|(n, v)| (n.to_string(), v.as_bytes().to_vec())).collect()
 }
 
+/// A response to the method that is accepted with every status from 100 to 699: its mandatory fields, long names.
+pub fn response_base(method: &str) -> Fields {
+    let mut fields = base(method);
+    fields.retain(|(name, _)| !["Max-Forwards", "Allow", "P-Asserted-Identity"].contains(&name.as_str()));
+    fields
+}
+
 /// Gives the named field this value; adds it at the end where it is not there.
 pub fn set(fields: &mut Fields, name: &str, value: &[u8]) {
     match fields.iter_mut().find(|(n, _)| n == name) {
@@ -38,7 +45,12 @@ pub fn add(fields: &mut Fields, name: &str, value: &[u8]) {
 }
 
 pub fn build(method: &str, uri: &str, fields: &Fields, body: &[u8]) -> Vec<u8> {
-    let mut out = format!("{method} {uri} SIP/2.0\r\n").into_bytes();
+    build_from(&format!("{method} {uri} SIP/2.0"), fields, body)
+}
+
+/// The message with this start line.
+pub fn build_from(start: &str, fields: &Fields, body: &[u8]) -> Vec<u8> {
+    let mut out = format!("{start}\r\n").into_bytes();
     for (name, value) in fields {
         out.extend(name.as_bytes());
         out.extend(b": ");

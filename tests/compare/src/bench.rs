@@ -1,0 +1,269 @@
+//! The library and the second implementation, side by side.
+
+use crate::counts::{Call, Counts, Kind, Met};
+use crate::differences::{escaped, same, same_bytes, within};
+use crate::guarded::{Against, Guarded};
+use crate::watch::NOW;
+use crate::{library, messages};
+use second::drafts::{Dice, Draft};
+use second::start::Start;
+
+const MOST_MESSAGE: usize = 70_000;
+const MOST_ROOM: usize = 12_288;
+const MOST_TRUNK: usize = 64;
+const FIELDS: [u64; 24] = [0, 1, 2, 3, 4, 5, 6, 7, 8, 9, 10, 11, 12, 13, 14, 15, 16, 17, 18, 19, 20, 255, 256 + 3, u64::MAX];
+const TRUNK: &[u8] = b"+33999999999";
+/// At and beside multiples of 16.
+const LENGTHS: [usize; 13] = [1, 15, 16, 17, 31, 32, 33, 47, 48, 49, 63, 64, 65];
+
+/// The memory lent to the library, and the counts.
+pub struct Bench {
+    message: Guarded,
+    trunk: Guarded,
+    out: Guarded,
+    pub counts: Counts,
+}
+
+/// One call of `screen`: what goes in beside the message.
+#[derive(Clone, Copy, Debug)]
+struct Lent {
+    side: u64,
+    room: usize,
+    filling: u8,
+    against: Against,
+}
+
+impl Bench {
+    pub fn new() -> Bench {
+        Bench { message: Guarded::new(MOST_MESSAGE), trunk: Guarded::new(MOST_TRUNK), out: Guarded::new(MOST_ROOM), counts: Counts::new() }
+    }
+
+    /// All that is not drawn.
+    pub fn fixed(&mut self) {
+        let far = [u64::MAX, u64::MAX - 1, 1 << 32, (1 << 32) + 404, (1 << 16) + 17, 1 << 63, 256 + 17, 65536 + 404];
+        for number in (0..2000).chain(far) {
+            self.causes(number);
+        }
+        same("screen", &library::with_null_pointers(), &second::screen(&[], 1, &mut []).numbers(), &[], "null pointers");
+        self.recorded();
+        for plain in [Draft::least(0), Draft::least(6)] {
+            self.odd_bytes(&plain);
+        }
+        self.odd_phrases();
+    }
+
+    /// One number as a cause and as a status.
+    fn causes(&mut self, number: u64) {
+        self.counts.call(Call::StatusOfCause);
+        self.counts.call(Call::CauseOfStatus);
+        same("status_of_cause", &library::status_of_cause(number), &second::status_of_cause(number), &[], &format!("cause {number}"));
+        same("cause_of_status", &library::cause_of_status(number), &second::cause_of_status(number), &[], &format!("status {number}"));
+    }
+
+    /// The recorded cases, each against the end and the start of the pages.
+    fn recorded(&mut self) {
+        for case in second::recorded::cases() {
+            for against in [Against::End, Against::Start] {
+                let lent = Lent { side: u64::from(case.side), room: usize::from(case.room), filling: 0xA5, against };
+                self.screen(&case.message, lent);
+                self.counts.call(Call::Recorded);
+                self.calling_with(&case.message, TRUNK, against);
+                self.count(&case.message, against, 6);
+                self.reading(&case.message, against, 6, 1);
+            }
+        }
+    }
+
+    /// Values at and beside multiples of 16 bytes, each odd byte at each place, in the last field: through all functions.
+    fn odd_bytes(&mut self, plain: &Draft) {
+        for carrier in &messages::CARRIERS {
+            for (length, place, odd) in odd_places() {
+                let message = messages::carrying(plain, carrier, length, place, odd, place % messages::BLANKS.len()).bytes();
+                self.odd(&message, place, carrier.0);
+            }
+        }
+    }
+
+    /// The same in the phrase of a response.
+    fn odd_phrases(&mut self) {
+        let plain = Draft::least(6);
+        for (length, place, odd) in odd_places() {
+            self.odd(&messages::phrased(&plain, length, place, odd).bytes(), place, 1);
+        }
+    }
+
+    fn odd(&mut self, message: &[u8], place: usize, field: u64) {
+        self.counts.call(Call::OddByte);
+        self.screen(message, Lent { side: place as u64 % 2, room: 9216, filling: 0x5A, against: Against::End });
+        self.reading(message, Against::End, field, 1);
+        self.calling_with(message, TRUNK, Against::End);
+    }
+
+    /// One drawn message through all functions.
+    pub fn one(&mut self, dice: &mut Dice) {
+        let draft = messages::draft(dice);
+        let (kind, message) = self.drawn(dice, &draft);
+        let lent = self.lent(dice, &message);
+        let numbers = self.screen(&message, lent);
+        self.counts.reason(kind, numbers[0], &message);
+        if numbers[0] == 0 {
+            self.accepted(&message, lent);
+        }
+        self.readings(dice, &message, lent.against);
+        self.calling(dice, &message, lent.against);
+        let number = if dice.one_in(10) { dice.number() } else { dice.below(800) as u64 };
+        self.causes(number);
+    }
+
+    /// The bytes of the draft, damaged or not; some are first compared by demand 3.
+    fn drawn(&mut self, dice: &mut Dice, draft: &Draft) -> (Kind, Vec<u8>) {
+        let mut message = draft.bytes();
+        if dice.one_in(3) {
+            messages::damage(dice, &mut message);
+        } else if dice.one_in(40) {
+            messages::cut_in_a_name(dice, &mut message);
+            self.counts.met(Met::EndsInName, true);
+        } else if dice.one_in(50) {
+            return (Kind::Noise, messages::noise(dice));
+        } else if dice.one_in(2) {
+            self.demand_3(dice, draft, &message);
+        }
+        if dice.one_in(3000) {
+            message.resize(8193 + dice.below(60_000), b'x');
+        }
+        (Kind::of(draft), message)
+    }
+
+    /// Counts what an accepted message has that is seldom.
+    fn accepted(&mut self, message: &[u8], lent: Lent) {
+        let start = second::lines::read(message).map(|lines| lines.start);
+        let response = matches!(start, Ok(Start::Status { .. }));
+        let phrase = if let Ok(Start::Status { phrase, .. }) = start { phrase.len() } else { 0 };
+        self.counts.met(Met::LongPhrase, phrase > 2000);
+        if lent.side == 1 && folded_length(message, 3) > 0 {
+            let masked = self.out.part(lent.room, lent.against).windows(21).any(|part| part == b"\"Anonymous\" <sip:anon");
+            self.counts.met(Met::MaskedFold, masked && !response);
+            let asked = second::values::asks_to_withhold(second::reading_slice(message, 16, 1));
+            self.counts.met(Met::UnmaskedResponse, asked && response);
+        }
+    }
+
+    /// A side, and a room that is enough, exact, one byte short, or anything.
+    fn lent(&mut self, dice: &mut Dice, message: &[u8]) -> Lent {
+        let side = if dice.one_in(100) { *dice.pick(&[2, 3, 255, 256, 257, 1 << 32, (1 << 32) + 1, u64::MAX]) } else { dice.below(2) as u64 };
+        let against = if dice.one_in(4) { Against::Start } else { Against::End };
+        let need = || second::screen(message, side, &mut [0; MOST_ROOM]).numbers()[4] as usize;
+        let room = match dice.below(8) {
+            0 => need(),
+            1 if dice.one_in(2) => need().saturating_sub(1),
+            2 if dice.one_in(4) => dice.below(MOST_ROOM),
+            3 if dice.one_in(8) => dice.below(3),
+            _ => 9216,
+        };
+        Lent { side, room, filling: dice.number() as u8, against }
+    }
+
+    /// The library's numbers, held with every byte of the buffer to those of the second implementation.
+    fn screen(&mut self, message: &[u8], lent: Lent) -> [u64; 5] {
+        self.counts.call(Call::Screen);
+        let guarded = self.message.copy(message, lent.against);
+        let out = self.out.part(lent.room, lent.against);
+        out.fill(lent.filling);
+        NOW.set("screen", guarded);
+        let numbers = library::screen(guarded, lent.side, out);
+        let mut wanted_out = vec![lent.filling; lent.room];
+        let wanted = second::screen(message, lent.side, &mut wanted_out).numbers();
+        same("screen (reason, reply, detail, missing, length)", &numbers, &wanted, message, &format!("{lent:?}"));
+        same_bytes("screen, the buffer", out, &wanted_out, message, &format!("{lent:?}"));
+        same_bytes("screen, the message lent to it", guarded, message, message, &format!("{lent:?}"));
+        numbers
+    }
+
+    /// Harmless fields and other names: the same numbers and the same buffer, library against library, and the second one too.
+    fn demand_3(&mut self, dice: &mut Dice, draft: &Draft, message: &[u8]) {
+        let changed = messages::changed(dice, draft).bytes();
+        // A fault can leave an empty line inside a drafted field; what comes after it is body, and no longer a field to be renamed.
+        let as_drafted = |bytes: &[u8]| second::lines::read(bytes).is_ok_and(|lines| lines.rest == draft.body);
+        if !as_drafted(message) || !as_drafted(&changed) {
+            return;
+        }
+        self.counts.call(if Kind::of(draft) == Kind::Request { Call::ChangedRequest } else { Call::ChangedResponse });
+        let lent = self.lent(dice, message);
+        let numbers = self.screen(message, lent);
+        let out = self.out.part(lent.room, lent.against).to_vec();
+        let other = self.screen(&changed, lent);
+        let what = format!("{lent:?}, changed from:\n{}", escaped(message));
+        same("screen, names and extra fields changed", &other, &numbers, &changed, &what);
+        same_bytes("screen, names and extra fields changed, the buffer", self.out.part(lent.room, lent.against), &out, &changed, &what);
+    }
+
+    fn readings(&mut self, dice: &mut Dice, message: &[u8], against: Against) {
+        // All numbers for some messages; for the others a few.
+        let fields: Vec<u64> = if dice.one_in(16) { FIELDS.to_vec() } else { vec![*dice.pick(&FIELDS), 1 + dice.below(18) as u64] };
+        for field in fields {
+            let count = self.count(message, against, field);
+            let places = [0, 1, 2, count as u64, count as u64 + 1, u64::MAX, 1 << 32];
+            let few = if dice.one_in(8) { &places[..] } else { &places[1..2] };
+            for &place in few {
+                self.reading(message, against, field, place);
+            }
+        }
+    }
+
+    fn count(&mut self, message: &[u8], against: Against, field: u64) -> usize {
+        let guarded = self.message.copy(message, against);
+        NOW.set("count", guarded);
+        self.counts.call(Call::Count);
+        let count = library::count(guarded, field);
+        same("count", &count, &second::count(message, field), message, &format!("field {field}"));
+        count
+    }
+
+    /// One reading, which is a part of the message.
+    fn reading(&mut self, message: &[u8], against: Against, field: u64, place: u64) {
+        let guarded = self.message.copy(message, against);
+        NOW.set("reading", guarded);
+        self.counts.call(Call::Reading);
+        let part = library::reading(guarded, field, place);
+        within("reading", part, message, message);
+        same("reading (start, length)", &part, &second::reading(message, field, place), message, &format!("field {field}, place {place}"));
+    }
+
+    fn calling(&mut self, dice: &mut Dice, message: &[u8], against: Against) {
+        let trunks: [&[u8]; 14] = [
+            TRUNK, b"+1234567", b"+123456789012345", b"+123456", b"+1234567890123456", b"+0234567", b"", b"+", b"33999999999", b"+12345x7",
+            b"+1234567 ", b"++1234567", b"+12345678901234567890123456789012345678901234567890", b"+33999999998",
+        ];
+        let trunk = if dice.one_in(3) { *dice.pick(&trunks) } else { trunks[0] };
+        self.calling_with(message, trunk, against);
+    }
+
+    /// The calling number, which is a part of the message or of the trunk number.
+    fn calling_with(&mut self, message: &[u8], trunk: &[u8], against: Against) {
+        let guarded = self.message.copy(message, against);
+        let lent = self.trunk.copy(trunk, against);
+        NOW.set("calling_number", guarded);
+        self.counts.call(Call::CallingNumber);
+        let part = library::calling_number(guarded, lent);
+        within("calling_number", (part.1, part.2), if part.0 == 1 { trunk } else { message }, message);
+        let wanted = second::calling_number(message, trunk);
+        let wanted = (u64::from(wanted.from_trunk), wanted.start, wanted.length);
+        same("calling_number (from trunk, start, length)", &part, &wanted, message, &format!("trunk {}", escaped(trunk)));
+        let identity = if part.0 == 0 && part.2 > 0 { folded_length(message, 15) } else { 0 };
+        self.counts.met(Met::FoldedIdentity, identity > 0);
+        self.counts.met(Met::FoldedOver256, identity > 256);
+        self.counts.met(Met::FoldedOver2000, identity > 2000);
+        self.counts.met(Met::TrunkOfResponse, part.0 == 1 && message.starts_with(b"SIP/2.0 ") && second::count(message, 15) > 0);
+    }
+}
+
+/// Every length with every place in it and every odd byte there.
+fn odd_places() -> impl Iterator<Item = (usize, usize, u8)> {
+    LENGTHS.into_iter().flat_map(|length| (0..length).flat_map(move |place| messages::ODD_BYTES.map(|odd| (length, place, odd))))
+}
+
+/// The length of the first value of this number where a line break stands in it, else 0.
+fn folded_length(message: &[u8], field: u64) -> usize {
+    let (start, length) = second::reading(message, field, 1);
+    if message[start..start + length].contains(&b'\n') { length } else { 0 }
+}

@@ -1,0 +1,129 @@
+//! What was called and what was met, for the report.
+
+use second::drafts::Draft;
+use second::profile::{Column, COLUMNS};
+use second::start::Start;
+use second::{judge, lines};
+use std::process::exit;
+
+/// What a message was drawn as.
+#[derive(Clone, Copy, Debug, PartialEq)]
+pub enum Kind {
+    Request,
+    Response,
+    Noise,
+}
+
+impl Kind {
+    pub fn of(draft: &Draft) -> Kind {
+        match draft.start {
+            Start::Request { .. } => Kind::Request,
+            Start::Status { .. } => Kind::Response,
+        }
+    }
+}
+
+const REASONS: usize = 18;
+
+/// The reasons that each kind must meet. At 3 and before it there is no kind yet; it is that of what was drawn.
+const OF_REQUESTS: [usize; 17] = [0, 1, 2, 3, 4, 5, 6, 7, 8, 9, 10, 11, 12, 13, 14, 15, 16];
+const OF_RESPONSES: [usize; 13] = [0, 1, 2, 3, 4, 5, 6, 9, 10, 11, 12, 16, 17];
+
+macro_rules! counted {
+    ($name:ident, $names:ident: $($variant:ident = $text:literal),+ $(,)?) => {
+        #[derive(Clone, Copy, Debug)]
+        pub enum $name { $($variant),+ }
+        const $names: &[&str] = &[$($text),+];
+    };
+}
+
+counted!(Call, CALLS:
+    Screen = "screen",
+    Count = "count",
+    Reading = "reading",
+    CallingNumber = "calling_number",
+    StatusOfCause = "status_of_cause",
+    CauseOfStatus = "cause_of_status",
+    ChangedRequest = "screen, names and extra fields of a request changed",
+    ChangedResponse = "screen, names and extra fields of a response changed",
+    Recorded = "screen, recorded cases",
+    OddByte = "screen, an odd byte at every place",
+);
+
+counted!(Met, METS:
+    MaskedFold = "withheld on side 1, From folded",
+    UnmaskedResponse = "response with Privacy id and From folded, accepted on side 1",
+    FoldedIdentity = "number of a folded identity",
+    FoldedOver256 = "the same, over 256 bytes",
+    FoldedOver2000 = "the same, over 2,000 bytes",
+    TrunkOfResponse = "trunk number of a response that has an identity",
+    EndsInName = "ends in a name or behind it",
+    LongPhrase = "accepted response with a phrase of over 2,000 bytes",
+);
+
+pub struct Counts {
+    reasons: [[u64; REASONS]; 3],
+    accepted: [u64; COLUMNS.len()],
+    calls: Vec<u64>,
+    mets: Vec<u64>,
+}
+
+impl Counts {
+    pub fn new() -> Counts {
+        Counts { reasons: [[0; REASONS]; 3], accepted: [0; COLUMNS.len()], calls: vec![0; CALLS.len()], mets: vec![0; METS.len()] }
+    }
+
+    pub fn call(&mut self, call: Call) {
+        self.calls[call as usize] += 1;
+    }
+
+    pub fn met(&mut self, met: Met, really: bool) {
+        self.mets[met as usize] += u64::from(really);
+    }
+
+    /// A drawn message and its reason.
+    pub fn reason(&mut self, kind: Kind, reason: u64, message: &[u8]) {
+        self.reasons[kind as usize][reason as usize] += 1;
+        if reason == 0 {
+            let column = lines::read(message).ok().and_then(|lines| judge::column(&lines));
+            let place = COLUMNS.iter().position(|&one| Some(one) == column);
+            self.accepted[place.expect("an accepted message has a column")] += 1;
+        }
+    }
+
+    /// Prints all; from 100,000 messages on, what was never met fails.
+    pub fn report(&self, seed: u64, count: u64) {
+        println!("no difference: seed {seed}, {count} messages");
+        for (name, calls) in CALLS.iter().zip(&self.calls) {
+            println!("{calls:>12}  {name}");
+        }
+        println!("      reason    requests   responses       noise");
+        for reason in 0..REASONS {
+            let [requests, responses, noise] = [0, 1, 2].map(|kind| self.reasons[kind][reason]);
+            println!("{reason:>12}{requests:>12}{responses:>12}{noise:>12}");
+        }
+        for (column, messages) in COLUMNS.iter().zip(&self.accepted).filter(|(&column, _)| column != Column::Re) {
+            println!("{messages:>12}  accepted in column {column:?}");
+        }
+        for (name, messages) in METS.iter().zip(&self.mets) {
+            println!("{messages:>12}  {name}");
+        }
+        let never = self.never();
+        if count >= 100_000 && !never.is_empty() {
+            println!("never reached: {never:?}");
+            exit(1);
+        }
+    }
+
+    fn never(&self) -> Vec<String> {
+        let missed = |kind: Kind, due: &[usize]| -> Vec<String> {
+            due.iter().filter(|&&reason| self.reasons[kind as usize][reason] == 0).map(|reason| format!("reason {reason} of a {kind:?}")).collect()
+        };
+        let mut never = [missed(Kind::Request, &OF_REQUESTS), missed(Kind::Response, &OF_RESPONSES)].concat();
+        // Both columns of INVITE are counted as the first.
+        let columns = COLUMNS.iter().zip(&self.accepted).filter(|(&column, &messages)| column != Column::Re && messages == 0);
+        never.extend(columns.map(|(column, _)| format!("column {column:?}")));
+        never.extend(METS.iter().zip(&self.mets).filter(|(_, &messages)| messages == 0).map(|(name, _)| name.to_string()));
+        never
+    }
+}
