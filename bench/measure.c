@@ -73,12 +73,16 @@ __attribute__((noinline)) size_t measured_sofia(void)
 {
     msg_t *msg = msg_make(sip_default_mclass(), 0, message, (ssize_t)len);
     sip_t *sip = msg == NULL ? NULL : sip_object(msg);
+    msg_common_t *h = NULL;
     size_t text_len = 0;
 
-    if (sip != NULL && sip->sip_request != NULL && sip->sip_error == NULL) {
+    if (sip != NULL && sip->sip_error == NULL && sip->sip_request != NULL)
+        h = sip->sip_request->rq_common;
+    else if (sip != NULL && sip->sip_error == NULL && sip->sip_status != NULL)
+        h = sip->sip_status->st_common;
+    if (h != NULL) {
         /* The fields are written from what was parsed, and not copied from the text that was read. */
-        msg_common_t *h;
-        for (h = sip->sip_request->rq_common; h != NULL; h = h->h_succ == NULL ? NULL : h->h_succ->sh_common)
+        for (; h != NULL; h = h->h_succ == NULL ? NULL : h->h_succ->sh_common)
             msg_fragment_clear(h);
         if (msg_as_string(msg_home(msg), msg, NULL, 0, &text_len) == NULL)
             text_len = 0;

@@ -2,7 +2,10 @@
 """Writes the benchmark's messages into a folder: messages.py FOLDER
 
 call            the build description's call in full
+call-200        a 200 to it, with as many bytes and fields
+call-180        a 180 to it
 invite          an INVITE of about 1,300 bytes with a body
+invite-200      a 200 to it of about the same size, with a body
 refused-REASON  the same INVITE, refused early (3: start line), in the middle (4: a field without colon) or late (12: no Allow)
 empty           80 empty fields
 SHAPE-LENGTH    messages that ask for the most work, accepted, of 1,000 to 8,192 bytes each:
@@ -32,6 +35,33 @@ Allow: INVITE, ACK, BYE
 X-Relay-Mode: text
 P-Asserted-Identity: <sip:+33187654321@relay.example>
 Privacy: id
+l: 0
+
+"""
+
+CALL_200 = """SIP/2.0 200 OK
+v: SIP/2.0/UDP relay.example;branch=z9hG4bK7
+Record-Route: <sip:gw.example;lr>
+f: <sip:+33187654321@relay.example>;tag=a1
+t: <sip:+33123456789@gw.example>;tag=b2
+i: 9x@relay.example
+CSeq: 1 INVITE
+m: <sip:gw.example:5060>
+Allow: INVITE, ACK, BYE
+X-Relay-Mode: text
+P-Asserted-Identity: <sip:+33123456789@gw.example>
+k: 100rel, timer
+l: 0
+
+"""
+
+CALL_180 = """SIP/2.0 180 Ringing
+v: SIP/2.0/UDP relay.example;branch=z9hG4bK7
+f: <sip:+33187654321@relay.example>;tag=a1
+t: <sip:+33123456789@gw.example>;tag=b2
+i: 9x@relay.example
+CSeq: 1 INVITE
+m: <sip:gw.example>
 l: 0
 
 """
@@ -70,6 +100,30 @@ Session-Expires: 1800;refresher=uac
 P-Asserted-Identity: "Relay Desk 4" <sip:+33187654321@relay.example>
 Privacy: id
 User-Agent: relay-desk/3.2
+X-Relay-Mode: text
+Accept: application/sdp
+Content-Type: application/sdp
+Content-Length: {length}
+
+"""
+
+INVITE_200 = """SIP/2.0 200 OK
+Via: SIP/2.0/UDP border.relay.example:5060;branch=z9hG4bK4b43c2ff8.1
+Via: SIP/2.0/UDP proxy.relay.example:5060;branch=z9hG4bK77ef4c2312983.1;received=192.0.2.2
+Via: SIP/2.0/UDP 192.0.2.10:5060;branch=z9hG4bKnashds8;rport=5060
+Record-Route: <sip:border.relay.example;lr>, <sip:proxy.relay.example;lr>
+From: "Relay Desk 4" <sip:+33187654321@relay.example;user=phone>;tag=1928301774
+To: <sip:+33123456789@gw.example;user=phone>;tag=314159-26
+Call-ID: a84b4c76e66710-3891201@192.0.2.10
+CSeq: 314159 INVITE
+Contact: <sip:+33123456789@192.0.2.20:5060;transport=udp>
+Allow: INVITE, ACK, BYE, CANCEL, OPTIONS, PRACK, UPDATE
+Supported: 100rel, timer, replaces
+Require: timer
+Session-Expires: 1800;refresher=uac
+P-Asserted-Identity: "Gateway 2" <sip:+33123456789@gw.example>
+Privacy: none
+Server: gateway/1.4
 X-Relay-Mode: text
 Accept: application/sdp
 Content-Type: application/sdp
@@ -144,8 +198,10 @@ def main():
     sdp = crlf(SDP)
     invite = crlf(INVITE.format(length=len(sdp))) + sdp
     messages = {
-        "call": crlf(CALL), "invite": invite, "refused-3": replaced(invite, " SIP/2.0\r\n", " SIP/2.1\r\n"),
-        "refused-4": replaced(invite, "CSeq: ", "CSeq "), "refused-12": replaced(invite, "Allow: ", "X-Allow: "),
+        "call": crlf(CALL), "call-200": crlf(CALL_200), "call-180": crlf(CALL_180), "invite": invite,
+        "invite-200": crlf(INVITE_200.format(length=len(sdp))) + sdp,
+        "refused-3": replaced(invite, " SIP/2.0\r\n", " SIP/2.1\r\n"), "refused-4": replaced(invite, "CSeq: ", "CSeq "),
+        "refused-12": replaced(invite, "Allow: ", "X-Allow: "),
         "empty": built(list(PLAIN.items())).removesuffix("\r\n") + "k:\r\n" * 80 + "\r\n",
     }
     for shape in SHAPES:

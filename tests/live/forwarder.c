@@ -1,9 +1,11 @@
 /*
- * A small UDP forwarder on loopback, for the live test: screens each request with libmishkolar.a and sends the outgoing message to the
- * far side. A refused request is answered with the reply status, or not at all where that is 0. What comes from the far side goes
- * back to the last caller as it is.
+ * A small UDP forwarder on loopback, for the live test: screens each message with libmishkolar.a and sends the outgoing one on, requests
+ * and responses alike. What comes from the trusted peer goes to the untrusted one (side 1), what comes from there to the trusted one
+ * (side 0). A refused message is answered with the reply status, or dropped where that is 0, as it is for every response.
  *
- * use: forwarder SIDE OWN_PORT FAR_PORT
+ * Says `ready` once, then for each message its reason, reply, detail and missing count in one line, after all that it sends for it.
+ *
+ * use: forwarder OWN_PORT TRUSTED_PORT UNTRUSTED_PORT
  */
 #include <arpa/inet.h>
 #include <inttypes.h>
@@ -93,43 +95,39 @@ static void on_loopback(struct sockaddr_in *address, const char *port)
 
 int main(int argc, char **argv)
 {
-    struct sockaddr_in own, far, caller, from;
-    uint64_t side;
-    int have_caller = 0;
+    struct sockaddr_in own, from;
+    struct sockaddr_in peers[2]; /* by side */
     int s;
 
     if (argc != 4) {
-        fprintf(stderr, "use: %s SIDE OWN_PORT FAR_PORT\n", argv[0]);
+        fprintf(stderr, "use: %s OWN_PORT TRUSTED_PORT UNTRUSTED_PORT\n", argv[0]);
         return 2;
     }
-    side = strtoull(argv[1], NULL, 10);
-    on_loopback(&own, argv[2]);
-    on_loopback(&far, argv[3]);
-    memset(&caller, 0, sizeof caller);
+    on_loopback(&own, argv[1]);
+    on_loopback(&peers[0], argv[2]);
+    on_loopback(&peers[1], argv[3]);
     s = socket(AF_INET, SOCK_DGRAM, 0);
     if (s < 0 || bind(s, (struct sockaddr *)&own, sizeof own) != 0) {
         perror("forwarder");
         return 1;
     }
+    puts("ready");
+    fflush(stdout);
     for (;;) {
         socklen_t from_len = sizeof from;
-        uint64_t reason, reply, detail, missing;
+        uint64_t side, reason, reply, detail, missing;
         size_t sent;
         ssize_t n = recvfrom(s, message, sizeof message, 0, (struct sockaddr *)&from, &from_len);
 
-        if (n < 0)
+        if (n < 0 || (from.sin_port != peers[0].sin_port && from.sin_port != peers[1].sin_port))
             continue;
-        if (from.sin_port == far.sin_port) {
-            if (have_caller)
-                sendto(s, message, (size_t)n, 0, (struct sockaddr *)&caller, sizeof caller);
-            continue;
-        }
-        caller = from;
-        have_caller = 1;
+        side = from.sin_port == peers[0].sin_port;
         sent = mishkolar_screen(message, (size_t)n, side, out, sizeof out, &reason, &reply, &detail, &missing);
         if (reason == 0)
-            sendto(s, out, sent, 0, (struct sockaddr *)&far, sizeof far);
+            sendto(s, out, sent, 0, (struct sockaddr *)&peers[side], sizeof peers[side]);
         else if (reply != 0)
-            sendto(s, answer, refuse((size_t)n, reply), 0, (struct sockaddr *)&caller, sizeof caller);
+            sendto(s, answer, refuse((size_t)n, reply), 0, (struct sockaddr *)&from, sizeof from);
+        printf("%" PRIu64 " %" PRIu64 " %" PRIu64 " %" PRIu64 "\n", reason, reply, detail, missing);
+        fflush(stdout);
     }
 }

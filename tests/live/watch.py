@@ -1,15 +1,16 @@
 #!/usr/bin/env python3
-"""Stands on both sides of the forwarder in the live test, on loopback.
+"""Stands on both sides of the forwarder in the live test, on loopback, between it and the two sipps.
 
-Callers (sipp) send to the front port. Each request is kept as it came and passed to the forwarder; what then reaches the far port is
-compared byte for byte with what `second screen` prescribes for that request. A refused request must be answered by the forwarder with
-the reply status, or with nothing where that is 0, and nothing of it may reach the far port. The far side answers accepted requests as
-a telephone would, and every answer must come back through the forwarder unchanged.
+Each message of a sipp is passed to the forwarder as it came: requests of the caller, responses of the called one. What the forwarder says
+and sends is then held to what `second screen` prescribes for that message and the side that it goes to: the four numbers; every byte that
+reaches the other end, and nothing there where the message is refused; an answer with the reply status to the sender, and none where that
+is 0. Only what has come through goes on to the sipp behind it.
 
-use: watch.py SIDE FRONT_PORT FORWARDER_PORT FAR_PORT SECOND [CASES]
+use: watch.py SIDE FIRST_PORT FORWARDER SECOND [CASES]
 
-CASES is a file of recorded cases (crates/vectors/stdin): each 40th of this side is sent too, after the callers have finished.
-Ends at SIGTERM with a summary; exit status 0 where all was as prescribed.
+SIDE is the called one's, the caller has the other. The five ports from FIRST_PORT on are those of the calling sipp, the near end, the
+forwarder, the far end and the called sipp. CASES is a file of recorded cases (crates/vectors/stdin): each 40th is sent too, after the
+sipps have finished. Ends at SIGTERM with a summary; exit status 0 where all was as prescribed, and all was seen that must be.
 """
 import collections
 import select
@@ -21,7 +22,13 @@ import sys
 HOST = "127.0.0.1"
 ROOM = 9216
 PATIENCE = 2.0     # seconds in which something that must come comes
-SILENCE = 0.1      # seconds in which nothing may come
+MASKED = b'"Anonymous" <sip:anonymous@anonymous.invalid>;tag='
+
+# What the sipps must have brought about, on either side: kinds accepted, replies, and numbers of what is dropped without one.
+ACCEPTED = ["INVITE", "INVITE (later)", "ACK", "BYE", "CANCEL", "OPTIONS"]
+ACCEPTED += ["180 to INVITE", "200 to INVITE", "487 to INVITE", "200 to BYE", "200 to CANCEL", "200 to OPTIONS"]
+REPLIES = [400, 405, 416, 420, 483, 484]
+DROPPED = {"200": [(3, 0, 0, 0), (6, 0, 0, 0), (11, 0, 0, 0), (12, 0, 7, 1)], "700": [(17, 0, 0, 0)], "ACK": [(12, 0, 2, 1)]}
 
 
 class Finished(Exception):
@@ -33,185 +40,211 @@ def finish(_number, _frame):
     raise Finished()
 
 
-def bound(port):
-    s = socket.socket(socket.AF_INET, socket.SOCK_DGRAM)
-    s.setsockopt(socket.SOL_SOCKET, socket.SO_RCVBUF, 4 << 20)
-    s.bind((HOST, port))
-    return s
+class End:
+    """One of the forwarder's two peers: its side, its socket, and the sipp behind it."""
+
+    def __init__(self, side, port, sipp):
+        self.side, self.port, self.sipp = side, port, (HOST, sipp)
+        self.socket = socket.socket(socket.AF_INET, socket.SOCK_DGRAM)
+        self.socket.setsockopt(socket.SOL_SOCKET, socket.SO_RCVBUF, 4 << 20)
+        self.socket.bind((HOST, port))
 
 
 class Watch:
-    def __init__(self, side, front, forwarder, far, second):
-        self.side = side
-        self.front = bound(front)
-        self.far = bound(far)
-        self.forwarder = (HOST, forwarder)
+    def __init__(self, side, first, forwarder, second):
+        self.near, self.far = End(1 - side, first + 1, first), End(side, first + 3, first + 4)
+        self.address = (HOST, first + 2)
+        ports = [str(end.port) for end in sorted((self.near, self.far), key=lambda end: end.side)]
+        self.forwarder = subprocess.Popen([forwarder, str(first + 2)] + ports, stdout=subprocess.PIPE, bufsize=0)
+        if self.forwarder.stdout.readline() != b"ready\n":
+            sys.exit("the forwarder did not start")
         self.second = second
-        self.waiting = collections.deque()    # requests that came while another one was under way
-        self.seen = collections.Counter()
-        self.faults = []
-        self.ringing = {}                     # Call-ID: the INVITE that has no final answer yet
-        self.hidden = 0
+        self.waiting = collections.deque()    # what came from a sipp while another message was under way
+        self.live = collections.Counter()
+        self.recorded = collections.Counter()
+        self.shown = collections.Counter()
+        self.faults = 0
 
-    def fault(self, what, request, wanted=None, got=None):
-        self.faults.append(what)
-        if len(self.faults) <= 5:
-            print(f"FAULT: {what}\nrequest: {request!r}\nwanted:  {wanted!r}\ngot:     {got!r}", flush=True)
+    def fault(self, what, message, wanted, got):
+        self.faults += 1
+        print(f"FAULT: {what}\nmessage: {message!r}\nwanted:  {wanted!r}\ngot:     {got!r}", flush=True)
+        if self.faults == 5:
+            # Each further one would only cost its wait.
+            self.summary()
+            sys.exit(1)
 
-    def prescribed(self, request):
-        """Reason, reply and outgoing message by the second implementation."""
-        done = subprocess.run([self.second, "screen", str(self.side), str(ROOM)], input=request, stdout=subprocess.PIPE, check=True)
+    def prescribed(self, message, side):
+        """The four numbers and the outgoing message by the second implementation."""
+        done = subprocess.run([self.second, "screen", str(side), str(ROOM)], input=message, stdout=subprocess.PIPE, check=True)
         line, _, outgoing = done.stdout.partition(b"\n")
-        reason, reply = (int(word) for word in line.split()[:2])
-        return reason, reply, outgoing
+        return tuple(int(word) for word in line.split()), outgoing
 
-    def from_forwarder(self, seconds):
-        """The next datagram that the forwarder sends to the caller, or None. Requests of callers are put aside."""
-        while select.select([self.front], [], [], seconds)[0]:
-            data, sender = self.front.recvfrom(65536)
-            if sender == self.forwarder:
+    def said(self):
+        """The numbers that the forwarder prints for the message under way, or None."""
+        if select.select([self.forwarder.stdout], [], [], PATIENCE)[0]:
+            return tuple(int(word) for word in self.forwarder.stdout.readline().split())
+        return None
+
+    def received(self, end, seconds):
+        """The next datagram that the forwarder sends to this end, or None. Those of the sipp are put aside."""
+        while select.select([end.socket], [], [], seconds)[0]:
+            data, sender = end.socket.recvfrom(65536)
+            if sender == self.address:
                 return data
-            self.waiting.append((data, sender))
+            self.waiting.append((data, end))
         return None
 
-    def at_far_side(self, seconds):
-        if select.select([self.far], [], [], seconds)[0]:
-            return self.far.recvfrom(65536)[0]
-        return None
+    def screened(self, message, sender):
+        """Sends a message from one end; the numbers, and what came of it to the other end and back."""
+        receiver = self.far if sender is self.near else self.near
+        numbers, outgoing = self.prescribed(message, receiver.side)
+        reason, reply = numbers[:2]
+        sender.socket.sendto(message, self.address)
+        said = self.said()
+        if said != numbers:
+            self.fault("the numbers differ", message, numbers, said)
+        # The line is printed last, so what must not come needs no wait. What comes late is found at a later message.
+        onward = self.received(receiver, PATIENCE if reason == 0 else 0)
+        if onward != (outgoing if reason == 0 else None):
+            self.fault("the outgoing message differs", message, outgoing, onward)
+        back = self.received(sender, PATIENCE if reply != 0 else 0)
+        if (back or b"").split(b" ")[:2] != ([b"SIP/2.0", b"%d" % reply] if reply != 0 else [b""]):
+            self.fault("the answer differs", message, reply, back)
+        return numbers, onward, back
 
-    def handle(self, request, caller):
-        reason, reply, outgoing = self.prescribed(request)
-        method = request.split(b" ", 1)[0].decode("latin-1") if reason == 0 or reason > 5 else "(unread)"
-        if reason == 0 and method == "INVITE" and b";tag=" in value(outgoing, b"To"):
-            method = "INVITE (later)"
-        self.seen[(method, reason, reply)] += 1
-        self.front.sendto(request, self.forwarder)
-        if reason == 0:
-            self.accepted(request, outgoing, caller)
-        elif reply != 0:
-            self.refused(request, reply, caller)
-        else:
-            self.silent(request)
+    def handle(self, message, sender):
+        receiver = self.far if sender is self.near else self.near
+        numbers, onward, back = self.screened(message, sender)
+        self.live[(kind(message, numbers, onward), numbers)] += 1
+        if onward is not None:
+            self.shown.update(shown(message, onward))
+            receiver.socket.sendto(onward, receiver.sipp)
+        if back is not None:
+            sender.socket.sendto(back, sender.sipp)
 
-    def accepted(self, request, outgoing, caller):
-        got = self.at_far_side(PATIENCE)
-        if got != outgoing:
-            self.fault("the outgoing message differs", request, outgoing, got)
-            return
-        if b"sip:anonymous@anonymous.invalid>" in value(got, b"From") and b"\r\nP-Asserted-Identity:" not in got:
-            self.hidden += 1
-        for response in self.responses(got):
-            self.far.sendto(response, self.forwarder)
-            back = self.from_forwarder(PATIENCE)
-            if back != response:
-                self.fault("an answer did not come back as it was sent", request, response, back)
-            if caller is not None:
-                self.front.sendto(response, caller)
-
-    def refused(self, request, reply, caller):
-        got = self.from_forwarder(PATIENCE)
-        if got is None or not got.startswith(b"SIP/2.0 %d " % reply):
-            self.fault(f"a refused request was not answered with {reply}", request, reply, got)
-            return
-        if self.at_far_side(0) is not None:
-            self.fault("a refused request reached the far side", request)
-        if caller is not None:
-            self.front.sendto(got, caller)
-
-    def silent(self, request):
-        got = self.from_forwarder(SILENCE)
-        if got is not None:
-            self.fault("a request that gets no answer got one", request, None, got)
-        if self.at_far_side(0) is not None:
-            self.fault("a refused request reached the far side", request)
-
-    def responses(self, request):
-        """What the far side answers: a called number that ends in 00 rings until it is cancelled."""
-        method, uri = request.split(b" ", 2)[:2]
-        call = value(request, b"Call-ID")
-        if method == b"ACK":
-            return []
-        if method == b"INVITE" and uri.split(b"@")[0].endswith(b"00"):
-            self.ringing[call] = request
-            return [response(request, b"180 Ringing")]
-        if method == b"CANCEL" and call in self.ringing:
-            return [response(request, b"200 OK"), response(self.ringing.pop(call), b"487 Request Terminated")]
-        return [response(request, b"200 OK")]
+    def nothing_more(self):
+        """Finds what the forwarder sent too late, and puts aside what the sipps have sent."""
+        for end in (self.near, self.far):
+            unasked = self.received(end, 0)
+            if unasked is not None:
+                self.fault("the forwarder sent something that nobody waited for", b"", None, unasked)
 
     def serve(self):
         while True:
             if self.waiting:
-                data, sender = self.waiting.popleft()
-            else:
-                data, sender = self.front.recvfrom(65536)
-            if sender == self.forwarder:
-                self.fault("the forwarder sent something that nobody waited for", b"", None, data)
-            else:
-                self.handle(data, sender)
+                self.handle(*self.waiting.popleft())
+                continue
+            self.nothing_more()
+            if not self.waiting:
+                select.select([self.near.socket, self.far.socket], [], [])
 
-    def recorded(self, file):
-        """Each 40th recorded case of this side with the forwarder's own room."""
+    def replay(self, file):
+        """Each 40th recorded case with the forwarder's own room, towards its side."""
         place = number = 0
         with open(file, "rb") as f:
             data = f.read()
         while place < len(data):
             side, room, length = data[place], int.from_bytes(data[place + 1:place + 3], "big"), int.from_bytes(data[place + 3:place + 5], "big")
-            if side == self.side and room == ROOM:
+            if side in (0, 1) and room == ROOM:
                 number += 1
                 if number % 40 == 0:
-                    self.handle(data[place + 5:place + 5 + length], None)
+                    message = data[place + 5:place + 5 + length]
+                    numbers = self.screened(message, self.near if self.far.side == side else self.far)[0]
+                    self.recorded[("response" if is_response(message) else "request", numbers[0])] += 1
             place += 5 + length
+        self.nothing_more()
+
+    def lacking(self):
+        """What must have been seen, and was not."""
+        nothing = (0, 0, 0, 0)
+        lacking = [kind for kind in ACCEPTED if (kind, nothing) not in self.live]
+        lacking += [f"reply {reply}" for reply in REPLIES if not any(numbers[1] == reply for _, numbers in self.live)]
+        lacking += [f"{kind} dropped: {numbers}" for kind, every in DROPPED.items() for numbers in every if (kind, numbers) not in self.live]
+        lacking += [what for what in SHOWN if what != HIDDEN and not self.shown[what]]
+        if (self.shown[HIDDEN] > 0) != (self.far.side == 1):
+            lacking.append(HIDDEN + ", on side 1 only")
+        return lacking
 
     def summary(self):
-        print(f"side {self.side}: {sum(self.seen.values())} requests, {self.hidden} callers hidden, {len(self.faults)} faults")
-        for (method, reason, reply), count in sorted(self.seen.items()):
-            what = "accepted" if reason == 0 else f"reason {reason}, reply {reply}"
-            print(f"{count:>6}  {method:<15} {what}")
-        wanted = ["INVITE", "INVITE (later)", "ACK", "BYE", "CANCEL", "OPTIONS"]
-        lacking = [method for method in wanted if (method, 0, 0) not in self.seen]
-        lacking += [str(reply) for reply in (400, 405, 416, 420, 483, 484) if not any(key[2] == reply for key in self.seen)]
-        if not any(key[1] != 0 and key[2] == 0 for key in self.seen):
-            lacking.append("refused in silence")
-        if (self.hidden > 0) != (self.side == 1):
-            lacking.append("hidden callers on side 1 only")
+        print(f"requests to side {self.far.side}, responses to side {self.near.side}: {sum(self.live.values())} messages of the sipps, "
+              f"{sum(self.recorded.values())} recorded, {self.faults} faults")
+        for (what, numbers), count in sorted(self.live.items()):
+            print(f"{count:>6}  {what:<15} " + ("accepted" if numbers[0] == 0 else "reason %d, reply %d, detail %d, missing %d" % numbers))
+        for what in SHOWN:
+            print(f"{self.shown[what]:>6}  {what}")
+        for (what, reason), count in sorted(self.recorded.items()):
+            print(f"{count:>6}  recorded {what}, " + ("accepted" if reason == 0 else f"reason {reason}"))
+        lacking = self.lacking()
         if lacking:
-            print("never seen: " + ", ".join(lacking))
+            print("never seen: " + "; ".join(lacking))
         return not self.faults and not lacking
 
 
 def value(message, name):
-    """The value of the first field with this long name in an outgoing message, or nothing."""
+    """The value of the first field with this long name, or nothing."""
     for line in message.split(b"\r\n\r\n")[0].split(b"\r\n")[1:]:
         if line.startswith(name + b": "):
             return line[len(name) + 2:]
     return b""
 
 
-def response(request, status):
-    lines = [b"SIP/2.0 " + status]
-    for line in request.split(b"\r\n\r\n")[0].split(b"\r\n")[1:]:
-        name = line.split(b":")[0]
-        if name == b"To" and b";tag=" not in line and b"180" not in status:
-            line += b";tag=far"
-        if name in (b"Via", b"From", b"To", b"Call-ID", b"CSeq"):
-            lines.append(line)
-    return b"\r\n".join(lines + [b"Contact: <sip:far.example>", b"Content-Length: 0", b"", b""])
+def is_response(message):
+    return message[:8].upper() == b"SIP/2.0 "
+
+
+def kind(message, numbers, outgoing):
+    """The method of a request; the status of a response, and of an accepted one the method too."""
+    words = message.split(b"\r\n")[0].decode("latin-1").split(" ")
+    if is_response(message):
+        return words[1] if outgoing is None else words[1] + " to " + value(outgoing, b"CSeq").decode("latin-1").split(" ")[-1]
+    if 1 <= numbers[0] <= 5:
+        return "(unread)"
+    later = outgoing is not None and words[0] == "INVITE" and b";tag=" in value(outgoing, b"To")
+    return words[0] + (" (later)" if later else "")
+
+
+# What an accepted message shows beyond its bytes being those prescribed.
+HIDDEN = "requests with the caller hidden"
+IGNORED = "responses that lost X-Relay-Mode, Privacy and P-Asserted-Identity"
+LONG = "responses with compact names that became long"
+OPEN = "responses with Privacy: id and From as it came"
+BARE = "responses to CANCEL that lost Contact and Allow"
+SHOWN = [HIDDEN, IGNORED, LONG, OPEN, BARE]
+
+
+def shown(message, outgoing):
+    if not is_response(message):
+        if value(outgoing, b"From").startswith(MASKED) and not value(outgoing, b"P-Asserted-Identity"):
+            yield HIDDEN
+        return
+    if lost(message, outgoing, b"X-Relay-Mode", b"Privacy", b"P-Asserted-Identity"):
+        yield IGNORED
+    if b"\r\nv: " in message and b"\r\nf: " in message and value(outgoing, b"Via") and value(outgoing, b"From"):
+        yield LONG
+    if value(message, b"Privacy") == b"id" and value(message, b"From") == value(outgoing, b"From") and b"anonymous" not in outgoing:
+        yield OPEN
+    if value(outgoing, b"CSeq").endswith(b" CANCEL") and lost(message, outgoing, b"Contact", b"Allow"):
+        yield BARE
+
+
+def lost(message, outgoing, *names):
+    return all(value(message, name) and not value(outgoing, name) for name in names)
 
 
 def main():
-    if len(sys.argv) not in (6, 7):
+    if len(sys.argv) not in (5, 6):
         sys.exit(__doc__)
-    side, front, forwarder, far = (int(word) for word in sys.argv[1:5])
     signal.signal(signal.SIGTERM, finish)
-    watch = Watch(side, front, forwarder, far, sys.argv[5])
+    watch = Watch(int(sys.argv[1]), int(sys.argv[2]), sys.argv[3], sys.argv[4])
     print("ready", flush=True)
     try:
         watch.serve()
     except Finished:
-        pass
-    if len(sys.argv) == 7:
-        watch.recorded(sys.argv[6])
-    sys.exit(0 if watch.summary() else 1)
+        if len(sys.argv) == 6:
+            watch.replay(sys.argv[5])
+        sys.exit(0 if watch.summary() else 1)
+    finally:
+        watch.forwarder.terminate()
 
 
 main()
