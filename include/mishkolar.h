@@ -25,8 +25,8 @@ extern "C" {
  * Screens one SIP message, a request or a response, that goes to a peer on a side: 0 trusted, 1 untrusted. Its start line says which it is.
  *
  * Accepted: *reason is 0, the outgoing message stands at the front of out, and its length is returned. The other bytes of out stay.
- * On side 1 an INVITE with `Privacy: id` goes out without P-Asserted-Identity and with an anonymous From. A response has the same answer
- * on both sides.
+ * On side 1 an INVITE whose Privacy has one of the tokens `header`, `user` and `id`, in any letter case and whatever stands beside it, goes
+ * out without P-Asserted-Identity and with a From that is anonymous but for its tag. A response has the same answer on both sides.
  * Refused: *reason is 1 to 17, 0 is returned, and out is untouched. Then
  *   *reply    is the SIP status to answer with; 0: send nothing (always for ACK and for a response);
  *   *detail   is at 9 the number of the field that came again, at 10 of the malformed one, at 12 the lowest missing number, at 14 the

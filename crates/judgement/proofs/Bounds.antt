@@ -16,7 +16,7 @@ use Rattle.sip.specs.declared.ParamAt.{ParamAt}
 use Rattle.sip.specs.declared.ParamsAt.{ParamsAt}
 use Rattle.sip.specs.declared.PartyAt.{PartyAt}
 use Rattle.sip.specs.Values.{isEmpty, isNumber, address, noParam, sign, paramValue, paramRest, param, noParams, withParam, stops, params, noParty, party}
-use Rattle.sip.specs.Values.{withToken, tokens, listOr, firstPlace, isLacking}
+use Rattle.sip.specs.Values.{withToken, tokens, listOr, firstPlace, isRestricting, isLacking}
 use Rattle.sip.proofs.Tests.{never, and-right}
 use Rattle.values.specs.declared.ListAt.{ListAt}
 use Rattle.values.specs.Answers.{wholeNumber, privacyAt, requireAt}
@@ -88,9 +88,9 @@ module _ (v : List ℕ) {r : ListAt} (e : r ≡ requireAt v) where
   unfolding requireAt
   place-bound = rw e (omega (arith, count-le 44 0 v, place-le isLacking 0 (listOr (tokens 44 0 v))))
 
-pub id-bound : (v : List ℕ) {r : ListAt} → r ≡ privacyAt v → r .first ≤ length v
+pub privacy-bound : (v : List ℕ) {r : ListAt} → r ≡ privacyAt v → r .first ≤ length v
 unfolding privacyAt
-id-bound v e = rw e (omega (arith, count-le 59 0 v, place-le (sameText (text "id")) 0 (listOr (tokens 59 0 v))))
+privacy-bound v e = rw e (omega (arith, count-le 59 0 v, place-le isRestricting 0 (listOr (tokens 59 0 v))))
 
 -- ---- the tag of a party stands in its value
 

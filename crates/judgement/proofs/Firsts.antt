@@ -8,11 +8,10 @@ use native.Mathlib.Omega.{arith}
 use lib.Dec.{eqb}
 use lib.ListN.{length}
 use borrow.Author.Tests.{eqb-true, eqb-false, ne-eqb, not-true}
-use Rattle.octets.specs.Classes.{text}
-use Rattle.octets.specs.Scans.{decimal, sameText}
+use Rattle.octets.specs.Scans.{decimal}
 use Rattle.sip.specs.declared.Span.{Span}
 use Rattle.sip.specs.Profile.{once, find, rows}
-use Rattle.sip.specs.Values.{party, isTagged, tagOf, tokens, listOr, firstPlace, holdsId, isNumber, isMaxForwards, isContentLength}
+use Rattle.sip.specs.Values.{party, isTagged, tagOf, tokens, listOr, firstPlace, anyToken, isRestricting, restricts, isNumber, isMaxForwards, isContentLength}
 use Rattle.sip.specs.Refusals.{Entry, valueOf, occurs, toTagged, withheld, contentLength, noHops, firstRepeat, wellFormed}
 use Rattle.sip.specs.Readings.{noSpan, part}
 use Rattle.sip.proofs.Once.{at-most-once}
@@ -66,11 +65,6 @@ abbrev orFalse : (List ℕ → Bool) → Option (List ℕ) → Bool
 orFalse p none = false
 orFalse p (some v) = p v
 
--- one token passes the test
-abbrev anyToken : (List ℕ → Bool) → List (List ℕ) → Bool
-anyToken p [] = false
-anyToken p (t ∷ ts) = p t || anyToken p ts
-
 any-place : (p : List ℕ → Bool) (n : ℕ) (ts : List (List ℕ)) → not (eqb (firstPlace p n ts) 0) ≡ anyToken p ts
 unfolding firstPlace
 any-place p n [] = refl
@@ -81,9 +75,9 @@ any-place p n (t ∷ ts) = go (p t) (any-place p (suc n) ts)
     go true q = rw (ne-eqb (suc n) 0 (λ z. omega arith))
     go false q = q
 
-id-found : (v : List ℕ) → not (eqb (privacyAt v .first) 0) ≡ holdsId v
-unfolding privacyAt holdsId
-id-found v = any-place (sameText (text "id")) 0 (listOr (tokens 59 0 v))
+restricting-found : (v : List ℕ) → not (eqb (privacyAt v .first) 0) ≡ restricts v
+unfolding privacyAt restricts
+restricting-found v = any-place isRestricting 0 (listOr (tokens 59 0 v))
 
 number-said : (most bound : ℕ) (v : List ℕ) → isNumber most bound v ≡ true → wholeNumber most bound v .value ≡ decimal 0 v
 unfolding wholeNumber
@@ -123,9 +117,9 @@ module _ (method : List ℕ) (es : List Entry) where
   unfolding noted finding withheld
   total-withheld = rw (first method 16 (λ (t : Tally). t .withheld) (λ (f : Finding). f .start) (λ t n f. refl) es) (go (valueOf 16 es))
     where
-      go : (o : Option (List ℕ)) → not (eqb (of 0 (λ (v : List ℕ). finding method 16 v .start) o) 0) ≡ orFalse holdsId o
+      go : (o : Option (List ℕ)) → not (eqb (of 0 (λ (v : List ℕ). finding method 16 v .start) o) 0) ≡ orFalse restricts o
       go none = refl
-      go (some v) = id-found v
+      go (some v) = restricting-found v
 
   total-tag : (v : List ℕ) → valueOf 3 es ≡ some v → tallied method noTally es .tag ≡ record { start = party v .tag; len = party v .len }
   unfolding noted finding

@@ -39,7 +39,7 @@ pub(crate) struct Lack {
 // What is found in one kept value: whether it is well formed, and what later reasons ask of it.
 // Max-Forwards and Content-Length: len is what it says. From: where its tag stands. To: len is the length of its tag (0: none).
 // Require: start is the place of the first tag that we lack (0: none), len the number of tags. P-Asserted-Identity: where its number
-// stands. Privacy: start is the place of the first `id` (0: none).
+// stands. Privacy: start is the place of the first token that withholds the caller (0: none).
 pub(crate) struct Finding {
     pub good: bool,
     pub start: usize,
@@ -47,8 +47,9 @@ pub(crate) struct Finding {
 }
 
 // What the kept fields say so far: the set of numbers seen; the first that came again, the first malformed one; what the first
-// Max-Forwards, To (the length of its tag), Privacy (the place of its `id`), Content-Length, From and P-Asserted-Identity say; the
-// required tags counted, and the place of the first that we lack. All are numbers: a bool among them is copied with its padding.
+// Max-Forwards, To (the length of its tag), Privacy (the place of its first token that withholds the caller), Content-Length, From and
+// P-Asserted-Identity say; the required tags counted, and the place of the first that we lack. All are numbers: a bool among them is
+// copied with its padding.
 pub(crate) struct Tally {
     pub seen: u32,
     pub again: usize,

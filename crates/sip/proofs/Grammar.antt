@@ -17,5 +17,6 @@ pub mod Numbers
 pub mod Methods
 pub mod RequestUris
 pub mod Fields
+pub mod Withheld
 pub mod Promises
 pub mod Examples

@@ -22,6 +22,7 @@ pub mod Spans
 pub mod Within
 pub mod Firsts
 pub mod Responses
+pub mod Masked
 pub mod Addresses
 pub mod Identities
 pub mod Tags

@@ -1,4 +1,4 @@
--- Every starred case and every worked response holds: both sides of each row compute to the same.
+-- Every starred case, every worked response and every worked Privacy holds: both sides of each row compute to the same.
 use mathlib.Core.Path.{refl}
 use Rattle.octets.specs.Classes.{text, isDigit, isHex, isToken, isUser, isParameter, isHost, isBlank, isBreak, isGap, isValue, isVisible}
 use Rattle.octets.specs.Scans.{run, all, starts, escape, runEscaped, closes, quoted, decimal, number, lower, same, sameText, any}
@@ -13,16 +13,17 @@ use Rattle.sip.specs.Refusals.{firstCSeqMethod, responseColumnOf, judged
 use Rattle.sip.specs.Screen.{masks, delivered, screened}
 use Rattle.sip.specs.Starred.{linesOf, callWith, call, printed, blankBuffer, starred}
 use Rattle.sip.specs.Responses.{responseWith, written, responses}
+use Rattle.sip.specs.Privacy.{requestWith, outgoing, callWithPrivacy, masked, unmasked, privacies}
 use Rattle.sip.specs.Readings.{valueSpan, valueSpans, spans, count, callingNumber}
 use Rattle.sip.specs.Values.{isEmpty, isNumber, isMaxForwards, isContentLength, isCSeq, cseqMethod, isCallId, host, port, hostPort, tail}
 use Rattle.sip.specs.Values.{sipFrom, sip}
 use Rattle.sip.specs.Values.{tel, uri, display, bracketed, address, sign, paramValue, paramRest, param, withParam, stops, params, party}
-use Rattle.sip.specs.Values.{isTo, isTagged, isFrom, tagOf, isGlobal, person, identity, isIdentity, tokens, isPrivacy, holdsId, isRequire}
-use Rattle.sip.specs.Values.{requiredTags, firstPlace, isLacking, isShort, isCalled}
+use Rattle.sip.specs.Values.{isTo, isTagged, isFrom, tagOf, isGlobal, person, identity, isIdentity, tokens, isPrivacy, isRestricting}
+use Rattle.sip.specs.Values.{restricts, isRequire, requiredTags, firstPlace, isLacking, isShort, isCalled}
 use Rattle.causes.specs.Causes.{status, cause, statusRows, classEnds, nextAbove, rowOf, statusOf, causeRows, causeOf, listed, given, among}
 use Rattle.sip.specs.Starred.{AllHold, no-row, row}
 
-both-hold : AllHold starred × AllHold responses
+tables-hold : AllHold starred × AllHold responses × AllHold privacies
 unfolding status cause statusRows classEnds nextAbove rowOf statusOf causeRows causeOf listed given among text isDigit isHex isToken
     isUser isParameter isHost isBlank isBreak isGap isValue isVisible run all starts escape runEscaped closes quoted decimal number lower
     same sameText isVersion requestLine isVersionFirst statusLine start startsCRLF startsBlank valueSize shape header any joined folded
@@ -30,20 +31,28 @@ unfolding status cause statusRows classEnds nextAbove rowOf statusOf causeRows c
     responseColumn ignored mandatory numbers replied lines kept valueOf occurs toTagged withheld contentLength bodyOf otherScheme reason7
     isUri reason8 firstRepeat reason9 wellFormed firstMalformed reason10 exceeds reason11 missingOf reason12 noHops reason13 allTags
     firstLacking reason14 reason15 reasons responseReasons judgedRequest firstCSeqMethod responseColumnOf judgedResponse judgement masks
-    delivered screened linesOf callWith call printed blankBuffer starred responseWith written responses valueSpan valueSpans spans count
-    callingNumber isEmpty isNumber isMaxForwards isContentLength isCSeq cseqMethod isCallId host port hostPort tail sipFrom sip tel uri
-    display bracketed address sign paramValue paramRest param withParam stops params party isTo isTagged isFrom tagOf isGlobal person
-    identity isIdentity tokens isPrivacy holdsId isRequire requiredTags firstPlace isLacking isShort isCalled
-both-hold = (
+    delivered screened linesOf callWith call printed blankBuffer starred responseWith written responses requestWith outgoing
+    callWithPrivacy masked unmasked privacies valueSpan valueSpans spans count callingNumber isEmpty isNumber isMaxForwards
+    isContentLength isCSeq cseqMethod isCallId host port hostPort tail sipFrom sip tel uri display bracketed address sign paramValue
+    paramRest param withParam stops params party isTo isTagged isFrom tagOf isGlobal person identity isIdentity tokens isPrivacy
+    isRestricting restricts isRequire requiredTags firstPlace isLacking isShort isCalled
+tables-hold = (
   row refl (row refl (row refl (row refl (row refl (row refl (row refl (row refl (row refl (row refl (row refl (row refl (row refl
       no-row)))))))))))),
   row refl (row refl (row refl (row refl (row refl (row refl (row refl (row refl (row refl (row refl (row refl (row refl (row refl
-      (row refl (row refl (row refl (row refl (row refl (row refl (row refl (row refl (row refl (row refl (row refl (row refl (row refl
-      (row refl (row refl (row refl (row refl (row refl (row refl (row refl no-row)))))))))))))))))))))))))))))))),
+      (row refl (row refl (row refl (row refl (row refl (row refl (row refl (row refl (row refl (row refl (row refl (row refl
+      (row refl (row refl (row refl (row refl (row refl (row refl (row refl (row refl no-row)))))))))))))))))))))))))))))))),
+  row refl (row refl (row refl (row refl (row refl (row refl (row refl (row refl (row refl (row refl (row refl (row refl (row refl
+      (row refl (row refl (row refl (row refl (row refl (row refl (row refl (row refl (row refl (row refl (row refl (row refl
+      (row refl (row refl (row refl (row refl (row refl (row refl (row refl (row refl (row refl (row refl (row refl (row refl
+      (row refl (row refl (row refl no-row))))))))))))))))))))))))))))))))))))))),
 )
 
 pub starred-hold : AllHold starred
-starred-hold = both-hold .0
+starred-hold = tables-hold .0
 
 pub responses-hold : AllHold responses
-responses-hold = both-hold .1
+responses-hold = tables-hold .1
+
+pub privacies-hold : AllHold privacies
+privacies-hold = tables-hold .2

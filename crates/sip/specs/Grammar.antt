@@ -202,10 +202,20 @@ pub data Tokens (b : ℕ) : List ℕ → List (List ℕ) → Type 0 where
   last-token : {t : List ℕ} → Token t → Tokens b t (t ∷ [])
   token-and : {t c s : List ℕ} {ts : List (List ℕ)} → Token t → Separator b c → Tokens b s ts → Tokens b (t ++ (c ++ s)) (t ∷ ts)
 
--- "one token is `id` (any case)": of the tokens, one is this word
-pub data HasToken (word : List ℕ) : List (List ℕ) → Type 0 where
-  token-here : {t : List ℕ} {ts : List (List ℕ)} → AnyCase word t → HasToken word (t ∷ ts)
-  token-later : {t : List ℕ} {ts : List (List ℕ)} → HasToken word ts → HasToken word (t ∷ ts)
+-- CR 2: "restricts on `header`, `user` and `id`", "letter case free"
+pub data Restricting : List ℕ → Type 0 where
+  by-header : {t : List ℕ} → AnyCase (text "header") t → Restricting t
+  by-user : {t : List ℕ} → AnyCase (text "user") t → Restricting t
+  by-id : {t : List ℕ} → AnyCase (text "id") t → Restricting t
+
+-- some element of a list has the property P, as in "holds any of the three"
+pub data HoldsAny {A : Type 0} (P : A → Type 0) : List A → Type 0 where
+  here : {x : A} {xs : List A} → P x → HoldsAny P (x ∷ xs)
+  later : {x : A} {xs : List A} → HoldsAny P xs → HoldsAny P (x ∷ xs)
+
+-- the token is one of these
+abbrev pub Among : List ℕ → List (List ℕ) → Type 0
+Among t ts = HoldsAny (λ (s : List ℕ). t ≡ s) ts
 
 -- "We have `100rel` and `timer` (any case)."
 pub data OurOptionTag : List ℕ → Type 0 where

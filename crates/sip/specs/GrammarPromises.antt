@@ -3,20 +3,23 @@
 -- derivation's part, and no two derivations of a value give it different parts. These are the tests that `Refusals.antt` asks of a
 -- message: `otherScheme`, `isUri` and `isCalled` of its Request-URI (reasons 7, 8 and 15), `wellFormed` of the canonical value of each
 -- kept field, with the method of the message (reason 10), `cseqMethod` of the first CSeq of a response (reason 6), `isTagged` of To
--- ("re"), `holdsId` of a Privacy that is not ignored, `isLacking` of each required tag (reason 14).
+-- ("re"), `restricts` of a Privacy that is not ignored, `isLacking` of each required tag (reason 14). `NothingLifts` and `OthersChangeNothing`
+-- compare two values of Privacy; `WithheldRead` is of every message that no reason but 1 and 16 refuses.
 use mathlib.Core.Path.{_≡_}
-use mathlib.Core.Bool.{true, cond}
-use mathlib.Core.List.{List, [], _∷_}
+use mathlib.Core.Bool.{true, false, cond}
+use mathlib.Core.List.{List, [], _∷_, _++_}
 use mathlib.Core.Logic.{_↔_}
-use mathlib.Core.Option.{some}
+use mathlib.Core.Option.{Option, some}
 use Prim.Native.Nat.{ℕ}
-use Rattle.octets.specs.Classes.{text}
 use Rattle.sip.specs.declared.Column.{Column}
-use Rattle.sip.specs.Values.{cseqMethod, uri, person, isTo, isTagged, isFrom, tagOf, isIdentity, identity, tokens, listOr, isPrivacy, holdsId, isRequire}
+use Rattle.sip.specs.Values.{cseqMethod, uri, person, isTo, isTagged, isFrom, tagOf, isIdentity, identity, tokens, listOr, isPrivacy, restricts, isRequire}
 use Rattle.sip.specs.Values.{requiredTags, isLacking, isCalled}
-use Rattle.sip.specs.Lines.{RequestLine, StatusLine, request, Header}
-use Rattle.sip.specs.Refusals.{lines, read, Entry, otherScheme, isUri, wellFormed, firstCSeqMethod, responseColumnOf}
-use Rattle.sip.specs.Grammar.{Token, Tokens, HasToken, OurOptionTag, CSeq, UriParts, Uri, personOf, Party, Identity, Called, OtherScheme, Formed}
+use Rattle.sip.specs.Lines.{RequestLine, StatusLine, Start, request, Field, Header, canonical}
+use Rattle.sip.specs.Profile.{numberOf, ignored}
+use Rattle.sip.specs.Refusals.{lines, read, Entry, withheld, otherScheme, isUri, wellFormed, firstCSeqMethod, responseColumnOf}
+use Rattle.sip.specs.Refusals.{messageColumn, Passed, judgement, accepted}
+use Rattle.sip.specs.Grammar.{Token, Tokens, Restricting, HoldsAny, Among, OurOptionTag, CSeq, UriParts, Uri, personOf, Party, Identity}
+use Rattle.sip.specs.Grammar.{Called, OtherScheme, Formed}
 
 -- ---- Request-URI
 
@@ -77,9 +80,35 @@ IdentityRead = (v n : List ℕ) → ((isIdentity v ≡ true) × (identity v ≡ 
 abbrev pub PrivacyRead : Type 0
 PrivacyRead = (v : List ℕ) (ts : List (List ℕ)) → ((isPrivacy v ≡ true) × (listOr (tokens 59 0 v) ≡ ts)) ↔ Tokens 59 v ts
 
--- a value passes the test for "withheld" exactly if the grammar derives it with a token `id`
-abbrev pub IdRead : Type 0
-IdRead = (v : List ℕ) → (holdsId v ≡ true) ↔ ((ts : List (List ℕ)) × Tokens 59 v ts × HasToken (text "id") ts)
+-- CR 2: a value restricts exactly if the grammar derives it with tokens of which one is `header`, `user` or `id` in any letter case
+abbrev pub RestrictsRead : Type 0
+RestrictsRead = (v : List ℕ) → (restricts v ≡ true) ↔ ((ts : List (List ℕ)) × Tokens 59 v ts × HoldsAny Restricting ts)
+
+-- CR 2: "`none` together with `id` is still restricted": with any further tokens, and in any order, a value that restricts still restricts
+abbrev pub NothingLifts : Type 0
+NothingLifts =
+    (v w : List ℕ) (ts us : List (List ℕ)) → Tokens 59 v ts → Tokens 59 w us
+    → ((t : List ℕ) → Among t ts → Among t us) → restricts v ≡ true → restricts w ≡ true
+
+-- CR 2: a further token that is not one of the three, for instance `none`, changes nothing, wherever it stands
+abbrev pub OthersChangeNothing : Type 0
+OthersChangeNothing =
+    (v w t : List ℕ) (before after : List (List ℕ)) → Tokens 59 v (before ++ after) → Tokens 59 w (before ++ (t ∷ after))
+    → (Restricting t → ⊥) → restricts w ≡ restricts v
+
+-- CR 2: "Privacy is not ignored and holds any of the three", of a field of a message with this column
+pub record Withholding (column : Option Column) (f : Field) : Type 0 where
+  pub a-privacy : numberOf (f .name) ≡ 16
+  pub not-ignored : ignored column 16 ≡ false
+  pub priv-values : List (List ℕ)
+  pub derived : Tokens 59 (canonical (f .value)) priv-values
+  pub restricting : HoldsAny Restricting priv-values
+
+-- a message that no reason but 1 and 16 refuses is withheld exactly if one of its fields is such a Privacy
+abbrev pub WithheldRead : Type 0
+WithheldRead =
+    (m : List ℕ) (l : Start) (h : Header) (r : Passed) → lines m ≡ read l h → judgement m ≡ accepted r
+    → (withheld (r .fields) ≡ true) ↔ HoldsAny (Withholding (messageColumn l (h .fields))) (h .fields)
 
 -- a value is good for Require, with the tags ts, exactly if the grammar derives it with these; so it has one list of tags
 abbrev pub RequireRead : Type 0

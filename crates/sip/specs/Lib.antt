@@ -9,5 +9,6 @@ pub mod Readings
 pub mod Promises
 pub mod Starred
 pub mod Responses
+pub mod Privacy
 pub mod Grammar
 pub mod GrammarPromises

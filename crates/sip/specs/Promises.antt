@@ -1,12 +1,15 @@
 -- The large promises over the definitions, as statements; their proofs are in proofs/.
 use mathlib.Core.Path.{_≡_}
-use mathlib.Core.Bool.{Bool, true}
+use mathlib.Core.Bool.{Bool, true, false}
 use mathlib.Core.List.{List}
 use mathlib.Core.Option.{some}
 use Prim.Native.Nat.{ℕ, _+_, _<_}
 use lib.ListN.{length}
-use Rattle.sip.specs.Lines.{RequestLine, StatusLine, requestLine, statusLine, Start, response, start, Header}
-use Rattle.sip.specs.Refusals.{Answer, lines, read, Passed, messageColumn, judgement, accepted}
+use Rattle.octets.specs.Classes.{text}
+use Rattle.sip.specs.declared.Column.the-variants.{Invite, Reinvite}
+use Rattle.sip.specs.Lines.{RequestLine, StatusLine, requestLine, statusLine, Start, request, response, start, Header}
+use Rattle.sip.specs.Profile.{ignored}
+use Rattle.sip.specs.Refusals.{Answer, lines, read, withheld, Passed, messageColumn, judgement, accepted}
 use Rattle.sip.specs.Values.{isGlobal}
 use Rattle.sip.specs.Output.{output}
 use Rattle.sip.specs.Screen.{screened}
@@ -51,6 +54,22 @@ NoReply = (m : List ℕ) (l : StatusLine) → start m ≡ some (response l) → 
 -- CR 1, of responses: "nothing is made anonymous": what goes to side 1 is what goes to side 0
 abbrev pub NothingAnonymous : Type 0
 NothingAnonymous = (m : List ℕ) (l : StatusLine) → start m ≡ some (response l) → (buffer : List ℕ) → screened m 1 buffer ≡ screened m 0 buffer
+
+-- CR 2: "Privacy is not ignored": of the requests that no reason but 1 and 16 refuses, an INVITE alone is withheld
+abbrev pub OnlyInvites : Type 0
+OnlyInvites =
+    (m : List ℕ) (l : RequestLine) (h : Header) (r : Passed) → lines m ≡ read (request l) h → judgement m ≡ accepted r
+    → withheld (r .fields) ≡ true → l .method ≡ text "INVITE"
+
+-- CR 2: where the caller is not withheld nothing is masked: what goes to side 1 is what goes to side 0
+abbrev pub OnlyWithheldMasked : Type 0
+OnlyWithheldMasked =
+    (m : List ℕ) (r : Passed) → judgement m ≡ accepted r → withheld (r .fields) ≡ false → (buffer : List ℕ)
+    → screened m 1 buffer ≡ screened m 0 buffer
+
+-- "both INVITE columns ignore the same"
+abbrev pub SameIgnored : Type 0
+SameIgnored = (n : ℕ) → ignored (some Reinvite) n ≡ ignored (some Invite) n
 
 -- CR 1: the calling number of an accepted response is the trunk number, since its P-Asserted-Identity is ignored
 abbrev pub ResponseCalling : Type 0

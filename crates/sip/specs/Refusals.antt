@@ -12,7 +12,7 @@ use Rattle.sip.specs.declared.Column.the-variants.{Invite, Reinvite, Ack
 use Rattle.sip.specs.Lines.{RequestLine, StatusLine, Start, request, response, start, startSize, Field, Header, header, canonical}
 use Rattle.sip.specs.Profile.{numberOf, once, columnOf, responseColumn, ignored, mandatory, numbers}
 use Rattle.sip.specs.Values.{isEmpty, isMaxForwards, isContentLength, isCSeq, cseqMethod, isCallId, uri, isFrom, isTo, isTagged, isIdentity}
-use Rattle.sip.specs.Values.{isPrivacy, holdsId, isRequire, requiredTags, firstPlace, isLacking, person, isCalled}
+use Rattle.sip.specs.Values.{isPrivacy, restricts, isRequire, requiredTags, firstPlace, isLacking, person, isCalled}
 
 -- "The answer has reason, reply, detail, missing count and length; each is 0 where not said here."
 pub record Answer : Type 0 where
@@ -82,9 +82,9 @@ orFalse p (some v) = p v
 unfoldable pub toTagged : List Entry → Bool
 toTagged es = orFalse isTagged (valueOf 4 es)
 
--- "The caller is withheld exactly if Privacy is not ignored and one token is `id`"
+-- CR 2: "Withheld exactly if Privacy is not ignored and holds any of the three, letter case free."
 unfoldable pub withheld : List Entry → Bool
-withheld es = orFalse holdsId (valueOf 16 es)
+withheld es = orFalse restricts (valueOf 16 es)
 
 -- what Content-Length says, where it is given
 unfoldable pub contentLength : List Entry → Option ℕ

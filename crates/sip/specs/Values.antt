@@ -285,13 +285,18 @@ firstPlace p n (t ∷ ts) = let later = firstPlace p (suc n) ts in cond (p t) (s
 unfoldable pub isPrivacy : List ℕ → Bool
 isPrivacy v = isList (tokens 59 0 v)
 
+-- one token passes the test
 abbrev pub anyToken : (List ℕ → Bool) → List (List ℕ) → Bool
 anyToken p [] = false
 anyToken p (t ∷ ts) = p t || anyToken p ts
 
--- "one token is `id` (any case)"
-unfoldable pub holdsId : List ℕ → Bool
-holdsId v = anyToken (sameText (text "id")) (listOr (tokens 59 0 v))
+-- CR 2: "restricts on `header`, `user` and `id`", "letter case free"
+unfoldable pub isRestricting : List ℕ → Bool
+isRestricting t = sameText (text "header") t || (sameText (text "user") t || sameText (text "id") t)
+
+-- "holds any of the three"
+unfoldable pub restricts : List ℕ → Bool
+restricts v = anyToken isRestricting (listOr (tokens 59 0 v))
 
 -- ---- "Require: one or more tokens parted by commas"
 

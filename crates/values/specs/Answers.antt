@@ -3,11 +3,11 @@ use mathlib.Core.Bool.{Bool, cond}
 use mathlib.Core.List.{List}
 use Prim.Native.Nat.{ℕ, _+_}
 use lib.ListN.{length, drop}
-use Rattle.octets.specs.Classes.{text, isUser}
-use Rattle.octets.specs.Scans.{starts, runEscaped, decimal, noNumber, sameText}
+use Rattle.octets.specs.Classes.{isUser}
+use Rattle.octets.specs.Scans.{starts, runEscaped, decimal, noNumber}
 use Rattle.octets.specs.declared.NumberAt.{NumberAt}
 use Rattle.sip.specs.declared.Span.{Span}
-use Rattle.sip.specs.Values.{isNumber, uri, address, person, personSize, isCalled, isIdentity, tokens, listOr, isList, firstPlace, isLacking}
+use Rattle.sip.specs.Values.{isNumber, uri, address, person, personSize, isCalled, isIdentity, tokens, listOr, isList, firstPlace, isRestricting, isLacking}
 use Rattle.sip.specs.Refusals.{otherScheme, isUri}
 use Rattle.sip.specs.Readings.{noSpan}
 use Rattle.values.specs.declared.RequestUri.{RequestUri}
@@ -31,9 +31,9 @@ identityAt v = let a = address v in cond (isIdentity v) (record { start = a .at 
 abbrev pub listAt : ℕ → (List ℕ → Bool) → List ℕ → ListAt
 listAt sep p v = let ts = tokens sep 0 v in record { good = isList ts; count = length (listOr ts); first = firstPlace p 0 (listOr ts) }
 
--- Privacy: the first `id`
+-- Privacy: the first token by which the caller is withheld
 unfoldable pub privacyAt : List ℕ → ListAt
-privacyAt v = listAt 59 (sameText (text "id")) v
+privacyAt v = listAt 59 isRestricting v
 
 -- Require: the first tag that we lack
 unfoldable pub requireAt : List ℕ → ListAt

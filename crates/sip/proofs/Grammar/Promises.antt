@@ -4,13 +4,14 @@ use Rattle.sip.specs.Values.{tagOf}
 use Rattle.sip.specs.Refusals.{firstCSeqMethod, responseColumnOf}
 use Rattle.sip.specs.Change.{StartShaped}
 use Rattle.sip.specs.Grammar.{personOf}
-use Rattle.sip.specs.GrammarPromises.{TagsRead, IdRead, LackingRead, UriRead, OneUri, PersonRead, CalledRead, ToRead, FromRead}
+use Rattle.sip.specs.GrammarPromises.{TagsRead, RestrictsRead, LackingRead, UriRead, OneUri, PersonRead, CalledRead, ToRead, FromRead}
 use Rattle.sip.specs.GrammarPromises.{OneParty, IdentityRead, PrivacyRead, RequireRead, FieldRead, MethodToken, SchemeRead}
 use Rattle.sip.specs.GrammarPromises.{TaggedRead, NoOther, ResponseMethodToken, CSeqMethodRead, NoCSeqMethodRead}
+use Rattle.sip.specs.GrammarPromises.{NothingLifts, OthersChangeNothing}
 use Rattle.sip.proofs.Change.{everything}
 use Rattle.sip.proofs.Grammar.Bytes.{each-all}
-use Rattle.sip.proofs.Grammar.Tokens.{id-complete, id-sound, lacking-complete, lacking-sound, privacy-complete, privacy-sound}
-use Rattle.sip.proofs.Grammar.Tokens.{require-complete, require-sound}
+use Rattle.sip.proofs.Grammar.Tokens.{lacking-complete, lacking-sound, nothing-lifted, others-unchanged, privacy-complete, privacy-sound}
+use Rattle.sip.proofs.Grammar.Tokens.{require-complete, require-sound, restricts-complete, restricts-sound}
 use Rattle.sip.proofs.Grammar.Follows.{uri-complete, uri-sound}
 use Rattle.sip.proofs.Grammar.Parties.{from-complete, from-sound, identity-complete, identity-sound, tagged-complete, tagged-sound}
 use Rattle.sip.proofs.Grammar.Parties.{tags-found, to-complete, to-sound}
@@ -58,8 +59,14 @@ identity-read v n = ((λ (e, f). rw f at (identity-sound v e)), (λ d. identity-
 pub privacy-read : PrivacyRead
 privacy-read v ts = ((λ (e, f). rw f at (privacy-sound v e)), (λ d. privacy-complete d))
 
-pub id-read : IdRead
-id-read v = ((λ e. id-sound v e), (λ (ts, d, h). id-complete d h))
+pub restricts-read : RestrictsRead
+restricts-read v = ((λ e. restricts-sound v e), (λ (ts, d, h). restricts-complete d h))
+
+pub nothing-lifts : NothingLifts
+nothing-lifts v w ts us d e m h = nothing-lifted d e m h
+
+pub others-change-nothing : OthersChangeNothing
+others-change-nothing v w t before after d e n = others-unchanged v w t before after d e n
 
 pub lacking-read : LackingRead
 lacking-read t = ((λ e. lacking-sound t e), (λ n. lacking-complete t n))

@@ -12,12 +12,12 @@ use borrow.Author.Tests.{ne-eqb}
 use Rattle.octets.specs.Classes.{isBlank, isToken, text}
 use Rattle.octets.specs.Scans.{run, all, sameText}
 use Rattle.sip.specs.Values.{sign, isEmpty, withToken, listOr, isList, tokens, isPrivacy, isRequire, requiredTags, anyToken}
-use Rattle.sip.specs.Values.{holdsId, isLacking}
-use Rattle.sip.specs.Grammar.{Token, Tokens, last-token, token-and, HasToken, token-here, token-later, OurOptionTag, our-100rel}
-use Rattle.sip.specs.Grammar.{our-timer}
+use Rattle.sip.specs.Values.{isRestricting, restricts, isLacking}
+use Rattle.sip.specs.Grammar.{Token, Tokens, last-token, token-and, Restricting, by-header, by-user, by-id, HoldsAny, here, later, Among}
+use Rattle.sip.specs.Grammar.{OurOptionTag, our-100rel, our-timer}
 use Rattle.sip.proofs.Tests.{never}
 use Rattle.sip.proofs.ValueSizes.{not-none}
-use Rattle.sip.proofs.Grammar.Bytes.{Ends, RunView, case-same, end, isSmall, ran, run-of, run-view, same-case}
+use Rattle.sip.proofs.Grammar.Bytes.{Ends, RunView, case-same, end, ran, run-of, run-view, same-case}
 use Rattle.sip.proofs.Grammar.Separators.{SignView, blank-token, empty-length, sign-exact, sign-some, sign-stops, sign-view}
 use Rattle.sip.proofs.Grammar.Separators.{signed, some-not-empty, token-no-blank, unsigned}
 
@@ -135,31 +135,87 @@ require-complete {v} {ts} d = let e : tokens 44 0 v ≡ some ts = tokens-complet
 
 -- ---- tokens that are looked for
 
-any-sound : (word : List ℕ) → all isSmall word ≡ true → (ts : List (List ℕ)) → anyToken (sameText word) ts ≡ true → HasToken word ts
-any-sound word h [] e = never (cc)
-any-sound word h (t ∷ ts) e = go (sameText word t) refl e (any-sound word h ts)
+restricting-complete : {t : List ℕ} → Restricting t → isRestricting t ≡ true
+unfolding isRestricting
+restricting-complete (by-header d) = rw (case-same d)
+restricting-complete {t} (by-user d) = rw (case-same d) (or-true (sameText (text "header") t))
+restricting-complete {t} (by-id d) = rw (case-same d, or-true (sameText (text "user") t)) (or-true (sameText (text "header") t))
+
+any-complete : {ts : List (List ℕ)} → HoldsAny Restricting ts → anyToken isRestricting ts ≡ true
+any-complete (here d) = rw (restricting-complete d)
+any-complete (later {x = t} d) = rw (any-complete d) (or-true (isRestricting t))
+
+pub restricts-complete : {v : List ℕ} {ts : List (List ℕ)} → Tokens 59 v ts → HoldsAny Restricting ts → restricts v ≡ true
+unfolding restricts
+restricts-complete d h = rw (privacy-complete d .1) (any-complete h)
+
+restricting-sound : (t : List ℕ) → isRestricting t ≡ true → Restricting t
+unfolding isRestricting text all
+restricting-sound t e = go (sameText (text "header") t) refl (sameText (text "user") t) refl (sameText (text "id") t) refl e
   where
-    go : (b : Bool) → sameText word t ≡ b → (b || anyToken (sameText word) ts) ≡ true → (anyToken (sameText word) ts ≡ true → HasToken word ts) → HasToken word (t ∷ ts)
-    go true p q ih = token-here (same-case word t h p)
-    go false p q ih = token-later (ih q)
+    go : (a : Bool) → sameText (text "header") t ≡ a → (b : Bool) → sameText (text "user") t ≡ b → (c : Bool) → sameText (text "id") t ≡ c
+        → (a || (b || c)) ≡ true → Restricting t
+    go true p b q c r e = by-header (same-case (text "header") t refl p)
+    go false p true q c r e = by-user (same-case (text "user") t refl q)
+    go false p false q true r e = by-id (same-case (text "id") t refl r)
+    go false p false q false r e = never (cc)
 
-any-complete : {word : List ℕ} {ts : List (List ℕ)} → HasToken word ts → anyToken (sameText word) ts ≡ true
-any-complete (token-here d) = rw (case-same d)
-any-complete {word} (token-later {t} {ts} d) = rw (any-complete d) (or-true (sameText word t))
+any-sound : (ts : List (List ℕ)) → anyToken isRestricting ts ≡ true → HoldsAny Restricting ts
+any-sound [] e = never (cc)
+any-sound (t ∷ ts) e = go (isRestricting t) refl e (any-sound ts)
+  where
+    go : (b : Bool) → isRestricting t ≡ b → (b || anyToken isRestricting ts) ≡ true → (anyToken isRestricting ts ≡ true → HoldsAny Restricting ts)
+        → HoldsAny Restricting (t ∷ ts)
+    go true p q ih = here (restricting-sound t p)
+    go false p q ih = later (ih q)
 
-is-list : (o : Option (List (List ℕ))) (p : List ℕ → Bool) → anyToken p (listOr o) ≡ true → isList o ≡ true
-is-list none p e = e
-is-list (some ts) p e = refl
+is-list : (o : Option (List (List ℕ))) → anyToken isRestricting (listOr o) ≡ true → isList o ≡ true
+is-list none e = e
+is-list (some ts) e = refl
 
-pub id-sound : (v : List ℕ) → holdsId v ≡ true → (ts : List (List ℕ)) × Tokens 59 v ts × HasToken (text "id") ts
-unfolding holdsId isPrivacy text all
-id-sound v e =
+pub restricts-sound : (v : List ℕ) → restricts v ≡ true → (ts : List (List ℕ)) × Tokens 59 v ts × HoldsAny Restricting ts
+unfolding restricts isPrivacy
+restricts-sound v e =
     let ts : List (List ℕ) = listOr (tokens 59 0 v) in
-    (ts, privacy-sound v (is-list (tokens 59 0 v) (sameText (text "id")) e), any-sound (text "id") refl ts e)
+    (ts, privacy-sound v (is-list (tokens 59 0 v) e), any-sound ts e)
 
-pub id-complete : {v : List ℕ} {ts : List (List ℕ)} → Tokens 59 v ts → HasToken (text "id") ts → holdsId v ≡ true
-unfolding holdsId
-id-complete d h = rw (privacy-complete d .1) (any-complete h)
+-- ---- more tokens
+
+one-of : {ts : List (List ℕ)} → HoldsAny Restricting ts → (t : List ℕ) × Restricting t × Among t ts
+one-of (here {x = t} d) = (t, d, here refl)
+one-of (later h) = let (t, d, i) = one-of h in (t, d, later i)
+
+of-one : {ts : List (List ℕ)} (t : List ℕ) → Restricting t → Among t ts → HoldsAny Restricting ts
+of-one t d (here e) = here (rw e at d)
+of-one t d (later i) = later (of-one t d i)
+
+pub nothing-lifted :
+    {v w : List ℕ} {ts us : List (List ℕ)} → Tokens 59 v ts → Tokens 59 w us → ((t : List ℕ) → Among t ts → Among t us)
+    → restricts v ≡ true → restricts w ≡ true
+nothing-lifted {v} {ts = ts} d e more h =
+    let (ss, c, k) = restricts-sound v h in
+    let one-list : ss ≡ ts = sym (privacy-complete c .1) ∙ privacy-complete d .1 in
+    let (t, r, i) = one-of (rw one-list at k) in
+    restricts-complete e (of-one t r (more t i))
+
+put-in : (t : List ℕ) (before after : List (List ℕ))
+    → anyToken isRestricting (before ++ (t ∷ after)) ≡ (isRestricting t || anyToken isRestricting (before ++ after))
+put-in t [] after = refl
+put-in t (b ∷ before) after = rw (put-in t before after) (go (isRestricting b) (isRestricting t))
+  where
+    go : (x y : Bool) → (x || (y || anyToken isRestricting (before ++ after))) ≡ (y || (x || anyToken isRestricting (before ++ after)))
+    go true true = refl
+    go true false = refl
+    go false y = refl
+
+pub others-unchanged : (v w t : List ℕ) (before after : List (List ℕ)) → Tokens 59 v (before ++ after) → Tokens 59 w (before ++ (t ∷ after))
+    → (Restricting t → ⊥) → restricts w ≡ restricts v
+unfolding restricts
+others-unchanged v w t before after d e n = rw (privacy-complete d .1, privacy-complete e .1, put-in t before after) (go (isRestricting t) refl)
+  where
+    go : (b : Bool) → isRestricting t ≡ b → (b || anyToken isRestricting (before ++ after)) ≡ anyToken isRestricting (before ++ after)
+    go true p = absurd (n (restricting-sound t p))
+    go false p = refl
 
 pub lacking-sound : (t : List ℕ) → isLacking t ≡ true → OurOptionTag t → ⊥
 unfolding isLacking

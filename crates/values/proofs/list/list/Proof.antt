@@ -8,9 +8,9 @@ use native.Mathlib.Omega.{arith}
 use lib.Dec.{eqb}
 use lib.ListN.{length, take, drop, drop-of-length-le, length-drop}
 use lib.Seq.{drop-drop}
-use Rattle.octets.specs.Classes.{isToken, text}
-use Rattle.octets.specs.Scans.{run, sameText}
-use Rattle.sip.specs.Values.{isEmpty, sign, isLacking, withToken, tokens}
+use Rattle.octets.specs.Classes.{isToken}
+use Rattle.octets.specs.Scans.{run}
+use Rattle.sip.specs.Values.{isEmpty, sign, isRestricting, isLacking, withToken, tokens}
 use Rattle.values.specs.Answers.{listAt}
 use Rattle.values.proofs.Within.{is-zero, not-zero}
 use Rattle.values.proofs.Lists.{no-bytes, has-bytes, no-first, a-first, noList, answer, begins, next, last}
@@ -47,13 +47,13 @@ module _ (sep : ℕ) (p : List ℕ → Bool) (v : List ℕ) (i n f : ℕ) (e : l
             e ∙ rw (here, has-bytes a l, ← hs, not-zero s z, ht, drop-drop (m + s) i v, hj, hk, hg, hw, ht) (next p n f (take m (drop i v)) (tokens sep 0 (drop (i + (m + s)) v)))
 
 abbrev Inv-loop : tie.InvT-loop
-Inv-loop table sep id v at₀ count₀ first₀ at count first =
+Inv-loop table sep privacy v at₀ count₀ first₀ at count first =
     (at ≤ length v) × (count ≤ at)
-    × (listAt sep (λ (t : List ℕ). cond id (sameText (text "id") t) (isLacking t)) v
-    ≡ answer (λ (t : List ℕ). cond id (sameText (text "id") t) (isLacking t)) count first (tokens sep 0 (drop at v)))
+    × (listAt sep (λ (t : List ℕ). cond privacy (isRestricting t) (isLacking t)) v
+    ≡ answer (λ (t : List ℕ). cond privacy (isRestricting t) (isLacking t)) count first (tokens sep 0 (drop at v)))
 
 abbrev μ-loop : tie.MeasureT-loop
-μ-loop table sep id v at₀ count₀ first₀ at count first = length v - at
+μ-loop table sep privacy v at₀ count₀ first₀ at count first = length v - at
 
 loop-holds : tie.Need-loop-holds Inv-loop μ-loop
 loop-holds c = search (begins, arith)
