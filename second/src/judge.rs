@@ -28,7 +28,7 @@ impl Passed {
         first_value(&self.fields, number)
     }
 
-    /// "The caller is withheld exactly if Privacy is not ignored and one token is `id`".
+    /// CR 2: "Withheld exactly if Privacy is not ignored and holds any of the three".
     pub fn is_withheld(&self) -> bool {
         self.first(16).is_some_and(|value| values::asks_to_withhold(&value.bytes))
     }

@@ -78,12 +78,17 @@ fn tokens_parted_by(value: &[u8], mark: u8) -> Option<Vec<Vec<u8>>> {
     Some(tokens)
 }
 
-/// "one token is `id` (any case)"
+/// CR 2: "holds any of the three", whatever stands beside it.
 pub fn asks_to_withhold(value: &[u8]) -> bool {
     match privacy(value) {
-        Some(tokens) => tokens.iter().any(|token| same_in_any_case(token, b"id")),
+        Some(tokens) => tokens.iter().any(|token| is_way_to_hide(token)),
         None => false,
     }
+}
+
+/// CR 2: "`header`, `user` and `id`", "letter case free". A whole token: `identity` is none of them.
+fn is_way_to_hide(token: &[u8]) -> bool {
+    same_in_any_case(token, b"header") || same_in_any_case(token, b"user") || same_in_any_case(token, b"id")
 }
 
 /// "We have `100rel` and `timer` (any case)."

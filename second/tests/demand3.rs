@@ -58,7 +58,7 @@ const VALUES: [(&str, &[&str]); 18] = [
     ("Supported", &["timer", ""]),
     ("Require", &["timer", "TIMER,100rel", "100rel, x", "y", ","]),
     ("P-Asserted-Identity", &["<sip:+1234567@h>", "tel:+1234567", "<sip:1@h>"]),
-    ("Privacy", &["id", "none", "id;x", ";"]),
+    ("Privacy", &["user", "id", "none", "Header;none", ";"]),
     ("Reason", &["x", "y", ""]),
     ("Accept", &["a/b", ""]),
     ("Record-Route", &["<sip:r>", "r", ""]),

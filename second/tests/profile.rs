@@ -167,16 +167,6 @@ fn withheld_on_side_1_only_and_in_both_invite_columns() {
 }
 
 #[test]
-fn privacy_is_ignored_outside_invite() {
-    for method in ["ACK", "BYE", "CANCEL", "OPTIONS"] {
-        let mut fields = base(method);
-        add(&mut fields, "Privacy", b"id");
-        let text = String::from_utf8(run(&build(method, URI, &fields, b""), 1).1).unwrap();
-        assert!(text.contains("\r\nFrom: <sip:a@relay.example>;tag=a1\r\n") && !text.contains("Privacy"));
-    }
-}
-
-#[test]
 fn output_is_fewer_than_1024_bytes_longer() {
     let mut text = "INVITE sip:12@h SIP/2.0\r\nv:x\r\nMax-Forwards:9\r\nf:sip:h;tag=1\r\nt:sip:h\r\ni:x\r\nCSeq:1 INVITE\r\n".to_string();
     text += "m:x\r\nAllow:\r\nP-Asserted-Identity:tel:+1234567\r\nPrivacy:id\r\nl:0\r\nc:x\r\n";

@@ -20,7 +20,7 @@ fn details(answers: &[[u64; 5]], reason: u64) -> BTreeSet<u64> {
 #[test]
 fn every_reason_and_detail_is_there() {
     let all = cases();
-    assert!(all.len() >= 13_000);
+    assert!(all.len() >= 13_800);
     let answers: Vec<[u64; 5]> = all.iter().map(answer).collect();
     for reason in 0..=17 {
         assert!(answers.iter().filter(|a| a[0] == reason).count() >= 10, "reason {reason}");
@@ -70,6 +70,38 @@ fn every_reason_and_detail_of_responses_is_there() {
     }
     let status_lines_refused = cases().iter().filter(|case| case.message.starts_with(b"SIP/2.0") && answer(case)[0] == 3).count();
     assert!(status_lines_refused >= 50);
+}
+
+/// The Privacy tokens of an INVITE that is accepted on side 1, in small letters, and whether From goes out anonymous.
+fn asked_and_masked(case: &Case) -> Option<(Vec<String>, bool)> {
+    let mut buffer = vec![0; usize::from(case.room)];
+    let [reason, .., length] = screen(&case.message, u64::from(case.side), &mut buffer).numbers();
+    let text = String::from_utf8_lossy(&buffer[..length as usize]);
+    let text = text.split("\r\n\r\n").next()?;
+    let value = text.split("\r\nPrivacy: ").nth(1)?.split("\r\n").next()?.to_ascii_lowercase();
+    let tokens = value.split(';').map(|token| token.trim().to_string()).collect();
+    (reason == 0 && case.side == 1 && text.starts_with("INVITE ")).then(|| (tokens, text.contains("\r\nFrom: \"Anonymous\" <sip:anonymous@")))
+}
+
+#[test]
+fn every_way_to_hide_is_there() {
+    let answers: Vec<(Vec<String>, bool)> = cases().iter().filter_map(asked_and_masked).collect();
+    let masked = |least: usize, with: &dyn Fn(&[String]) -> bool| {
+        let found: Vec<bool> = answers.iter().filter(|(tokens, _)| with(tokens)).map(|(_, masked)| *masked).collect();
+        found.len() >= least && found.iter().all(|&masked| masked)
+    };
+    for way in ["header", "user", "id"] {
+        let has = |tokens: &[String], token: &str| tokens.iter().any(|one| one == token);
+        assert!(masked(40, &|tokens| tokens == [way]), "{way} alone");
+        assert!(masked(40, &|tokens| has(tokens, way) && has(tokens, "none")), "{way} beside none");
+        assert!(masked(3, &|tokens| has(tokens, way) && tokens.len() > 3000), "{way} among many");
+        assert!(masked(20, &|tokens| has(tokens, way) && ["header", "user", "id"].iter().filter(|one| has(tokens, one)).count() > 1), "{way} beside another");
+    }
+    let shown: BTreeSet<&str> = answers.iter().filter(|(tokens, masked)| tokens.len() == 1 && !masked).map(|(tokens, _)| tokens[0].as_str()).collect();
+    assert!(shown.len() >= 80, "{}", shown.len());
+    for near in ["username", "users", "use", "ser", "usr", "us%r", "identity", "user-id", "i", "d", "idd", "headers", "head", "header.", "he!der", "none", "session", "critical", "history"] {
+        assert!(shown.contains(near), "{near}");
+    }
 }
 
 #[test]

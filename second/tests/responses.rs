@@ -244,7 +244,7 @@ fn nothing_else_of_requests_is_asked() {
     let change = |f: &mut Fields| {
         add(f, "Max-Forwards", b"0");
         add(f, "Require", b"lacking");
-        add(f, "Privacy", b"id");
+        add(f, "Privacy", b"header;user;id");
         add(f, "P-Asserted-Identity", b"<sip:+33187654321@relay.example>");
     };
     for (status, method) in [("200 OK", "INVITE"), ("100 Trying", "INVITE"), ("200 OK", "OPTIONS")] {

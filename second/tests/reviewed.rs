@@ -22,7 +22,7 @@ fn every_call_is_answered_as_written() {
 fn every_reason_is_among_them() {
     let reasons: BTreeSet<u64> = calls().iter().map(|call| call.answer[0]).collect();
     assert_eq!(reasons, (0..=17).collect());
-    assert_eq!(files().map(|calls| calls.len()), [96, 124]);
+    assert_eq!(files().map(|calls| calls.len()), [96, 124, 81]);
     let responses = calls().into_iter().filter(|call| call.case.message.starts_with(b"SIP/2.0 "));
     let reasons: BTreeSet<u64> = responses.map(|call| call.answer[0]).collect();
     assert_eq!(reasons, BTreeSet::from([0, 1, 2, 3, 4, 5, 6, 9, 10, 11, 12, 16, 17]));

@@ -82,25 +82,6 @@ fn require() {
 }
 
 #[test]
-fn privacy_withholds_for_the_token_id_alone() {
-    let withheld = |value: &str| {
-        let mut fields = base("INVITE");
-        add(&mut fields, "Privacy", value.as_bytes());
-        let out = run(&build("INVITE", URI, &fields, b""), 1).1;
-        let text = String::from_utf8(out).unwrap();
-        let hidden = text.contains("From: \"Anonymous\" <sip:anonymous@anonymous.invalid>;tag=a1\r\n");
-        assert_eq!(hidden, !text.contains("P-Asserted-Identity"));
-        hidden
-    };
-    for value in ["id", "ID", "iD", "Id", "user;id", "id;none", "header ; Id ; user", "id;id", "user;\r\n id"] {
-        assert!(withheld(value), "{value}");
-    }
-    for value in ["identity", "xid", "user", "none", "i;d", "id.", "-id", "user;header;ids"] {
-        assert!(!withheld(value), "{value}");
-    }
-}
-
-#[test]
 fn ignored_fields_may_hold_anything() {
     // Privacy, Require, P-Asserted-Identity and Contact are ignored in CANCEL; Reason in INVITE.
     for name in ["Privacy", "Require", "P-Asserted-Identity", "Contact", "Content-Type", "Record-Route"] {

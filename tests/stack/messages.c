@@ -153,9 +153,12 @@ static const struct value values[] = {
     { "P-Asserted-Identity", "sip:+33187654321@a.example", "\r\n ", "", 0, 0 },
     { "P-Asserted-Identity", CALLER, "\r\n ;a", "", 10, 0 },
     { "Privacy", "none", "\r\n ;x", ";id", 0, 0 },
-    { "Privacy", "id", ";x", "", 0, 0 },
-    { "Privacy", "id", "\r\n ;\r\n x", "", 0, 0 },
-    { "Privacy", "id", "\r\n ;x", ";", 10, 0 },
+    { "Privacy", "none", "\r\n ;headers", ";Header", 0, 0 },
+    { "Privacy", "none", ";x", "\r\n ;\r\n HEADER", 0, 0 },
+    { "Privacy", "user", ";x", "", 0, 0 },
+    { "Privacy", "id", "\r\n ;\r\n user", "", 0, 0 },
+    { "Privacy", "identity", "\r\n ;username", ";heade", 0, 0 },
+    { "Privacy", "user", "\r\n ;x", ";", 10, 0 },
     { "Require", "timer", "\r\n ,100rel", "", 0, 0 },
     { "Require", "timer", ",timer", "", 0, 0 },
     { "Require", "timer", "\r\n ,100rel", ",lacking", 14, 0 },
@@ -198,8 +201,8 @@ static void make_value(const struct whole *whole, const struct value *value, siz
 static void make_values(const struct whole *whole)
 {
     static const size_t lengths[] = { 0, 600, 800, 1500, 2600, 5000, 8192, 8193 };
-    static const char *const privacies[] = { NULL, "id", "none;\r\n id" };
-    static const char *const behind[] = { "", ", Privacy id", ", Privacy folded" };
+    static const char *const privacies[] = { NULL, "user", "none;\r\n Header" };
+    static const char *const behind[] = { "", ", Privacy user", ", Privacy folded" };
     size_t i, j, k;
 
     for (i = 0; i < sizeof values / sizeof values[0]; i++)

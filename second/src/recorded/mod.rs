@@ -7,6 +7,7 @@ mod columns;
 mod edges;
 mod outside;
 mod outside_responses;
+mod privacy;
 mod responses;
 pub mod reviewed;
 mod sizes;
@@ -44,7 +45,7 @@ pub fn cases() -> Vec<Case> {
     let mut all: Vec<Case> = Vec::new();
     let mut seen = std::collections::HashSet::new();
     let from_others = [outside::cases(), outside_responses::cases(), reviewed::cases()];
-    let own = [columns::cases(), edges::cases(), sizes::cases(), strewn::cases(), responses::cases()];
+    let own = [columns::cases(), edges::cases(), sizes::cases(), strewn::cases(), responses::cases(), privacy::cases()];
     for group in from_others.into_iter().chain(own) {
         for case in group {
             assert!(case.message.len() <= MOST && case.room <= ROOM, "a recorded case is too long");

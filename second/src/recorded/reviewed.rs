@@ -1,8 +1,13 @@
-//! Edge calls that readers of the pages alone wrote, with the answers: second/reviewed/calls.txt, and responses.txt for CR 1.
+//! Edge calls that readers of the pages alone wrote, with the answers: second/reviewed/calls.txt, responses.txt for CR 1, privacy.txt
+//! for CR 2.
 
 use super::Case;
 
-const FILES: [&str; 2] = [include_str!("../../reviewed/calls.txt"), include_str!("../../reviewed/responses.txt")];
+const FILES: [&str; 3] = [
+    include_str!("../../reviewed/calls.txt"),
+    include_str!("../../reviewed/responses.txt"),
+    include_str!("../../reviewed/privacy.txt"),
+];
 
 /// A call and what its writer says of it: reason, reply, detail, missing count and length, and the outgoing message.
 pub struct Reviewed {
@@ -21,7 +26,7 @@ pub fn calls() -> Vec<Reviewed> {
 }
 
 /// Each call is a paragraph; the first one of a file says what it has.
-pub fn files() -> [Vec<Reviewed>; 2] {
+pub fn files() -> [Vec<Reviewed>; 3] {
     FILES.map(|file| file.split("\n\n").skip(1).map(call).collect())
 }
 

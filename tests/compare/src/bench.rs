@@ -3,6 +3,7 @@
 use crate::counts::{Call, Counts, Kind, Met};
 use crate::differences::{escaped, same, same_bytes, within};
 use crate::guarded::{Against, Guarded};
+use crate::privacy::Asked;
 use crate::watch::NOW;
 use crate::{library, messages};
 use second::drafts::{Dice, Draft};
@@ -106,8 +107,11 @@ impl Bench {
         let lent = self.lent(dice, &message);
         let numbers = self.screen(&message, lent);
         self.counts.reason(kind, numbers[0], &message);
-        if numbers[0] == 0 {
-            self.accepted(&message, lent);
+        match numbers {
+            [0, ..] => self.accepted(&message, lent),
+            [9, _, 16, ..] => self.counts.met(Met::DoubledPrivacy, true),
+            [10, _, 16, ..] => self.counts.met(Met::MalformedPrivacy, Asked::of(&message).is_some_and(|asked| asked.mentions())),
+            _ => {}
         }
         self.readings(dice, &message, lent.against);
         self.calling(dice, &message, lent.against);
@@ -140,12 +144,32 @@ impl Bench {
         let response = matches!(start, Ok(Start::Status { .. }));
         let phrase = if let Ok(Start::Status { phrase, .. }) = start { phrase.len() } else { 0 };
         self.counts.met(Met::LongPhrase, phrase > 2000);
-        if lent.side == 1 && folded_length(message, 3) > 0 {
-            let masked = self.out.part(lent.room, lent.against).windows(21).any(|part| part == b"\"Anonymous\" <sip:anon");
-            self.counts.met(Met::MaskedFold, masked && !response);
-            let asked = second::values::asks_to_withhold(second::reading_slice(message, 16, 1));
-            self.counts.met(Met::UnmaskedResponse, asked && response);
+        let Some(asked) = Asked::of(message) else { return };
+        let invite = message.starts_with(b"INVITE ");
+        if invite && lent.side == 1 {
+            self.untrusted(message, lent, &asked);
         }
+        let folded = folded_length(message, 3) > 0;
+        self.counts.met(Met::UnmaskedResponse, lent.side == 1 && response && folded && asked.asks());
+        self.counts.met(Met::AskedElsewhere, lent.side == 1 && !response && !invite && asked.asks());
+        self.counts.met(Met::AskedOnSide0, lent.side == 0 && invite && asked.asks());
+    }
+
+    /// Counts what an INVITE with Privacy that was accepted on side 1 has: what masked it, or why it was shown. The buffer says which.
+    fn untrusted(&mut self, message: &[u8], lent: Lent, asked: &Asked) {
+        let masked = self.out.part(lent.room, lent.against).windows(21).any(|part| part == b"\"Anonymous\" <sip:anon");
+        let ways = asked.ways();
+        self.counts.met(Met::MaskedFold, masked && folded_length(message, 3) > 0);
+        self.counts.met(Met::MaskedByHeader, masked && ways == [true, false, false]);
+        self.counts.met(Met::MaskedByUser, masked && ways == [false, true, false]);
+        self.counts.met(Met::MaskedById, masked && ways == [false, false, true]);
+        self.counts.met(Met::MaskedBySeveral, masked && ways.iter().filter(|&&way| way).count() > 1);
+        self.counts.met(Met::MaskedBesideNone, masked && asked.holds(b"none"));
+        self.counts.met(Met::MaskedByFolded, masked && asked.folded);
+        self.counts.met(Met::MaskedByLong, masked && asked.length > 2000);
+        self.counts.met(Met::ShownNone, !masked && asked.holds(b"none"));
+        self.counts.met(Met::ShownLonger, !masked && asked.has_longer_or_shorter());
+        self.counts.met(Met::ShownOther, !masked && asked.has_one_byte_other());
     }
 
     /// A side, and a room that is enough, exact, one byte short, or anything.

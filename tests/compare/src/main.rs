@@ -6,6 +6,7 @@ mod differences;
 mod guarded;
 mod library;
 mod messages;
+mod privacy;
 mod progress;
 mod watch;
 

@@ -1,5 +1,6 @@
 //! "What demand 3 compares": harmless fields and other names.
 
+use super::values::privacy;
 use second::drafts::{in_any_case, renamed, Dice, Draft, Whole};
 use second::profile::{self, ROWS};
 use second::{judge, lines};
@@ -13,20 +14,27 @@ pub fn ignored_names(draft: &Draft) -> Vec<&'static str> {
 
 /// A well-shaped field with one of these names, or with a name that is not listed.
 pub fn ignored(dice: &mut Dice, listed: &[&str]) -> Whole {
-    let unlisted = ["X-Relay-Mode", "Via-Extra", "Vi", "Subject", "s", "e", "a", "P-Asserted-Identit", "Privacys", "re", "!%*_+`'~", "0", "Fro", "Tos"];
+    let unlisted = ["X-Relay-Mode", "Via-Extra", "Vi", "Subject", "s", "e", "a", "P-Asserted-Identit", "Privacys", "Privac", "re", "!%*_+`'~", "0", "Fro", "Tos"];
     let name = if listed.is_empty() || dice.one_in(2) { *dice.pick(&unlisted) } else { *dice.pick(listed) };
     let mut rest = dice.pick(&[":", " :", "\t: "]).as_bytes().to_vec();
-    for _ in 0..dice.below(16) {
-        match dice.below(10) {
-            0 => rest.extend(b"\r\n "),
-            1 => rest.extend(b";tag=1"),
-            2 => rest.push(*dice.pick(&[9, 128, 255])),
-            3 => rest.extend(b"\r\n\t\r\n "),
-            _ => rest.push(32 + dice.below(95) as u8),
-        }
-    }
+    // In a Privacy that counts, some lists would withhold the caller.
+    rest.extend(if dice.one_in(6) { privacy(dice) } else { any_value(dice) });
     rest.extend(b"\r\n");
     Whole { name: in_any_case(dice, name.as_bytes()), rest }
+}
+
+fn any_value(dice: &mut Dice) -> Vec<u8> {
+    let mut out = Vec::new();
+    for _ in 0..dice.below(16) {
+        match dice.below(10) {
+            0 => out.extend(b"\r\n "),
+            1 => out.extend(b";tag=1"),
+            2 => out.push(*dice.pick(&[9, 128, 255])),
+            3 => out.extend(b"\r\n\t\r\n "),
+            _ => out.push(32 + dice.below(95) as u8),
+        }
+    }
+    out
 }
 
 /// The same message with harmless fields added anywhere and names rewritten: each original field keeps every byte after its name.

@@ -2,7 +2,7 @@
 
 use super::change::{ignored, ignored_names};
 use super::field;
-use super::values::{pick, tokens};
+use super::values::{pick, privacy, tokens, way};
 use second::drafts::{Dice, Draft, Whole};
 use second::start::Start;
 
@@ -17,9 +17,25 @@ pub fn of_request(dice: &mut Dice, draft: &mut Draft, column: usize) {
             let value = tokens(dice, &["timer", "100rel", "lacking"], ",");
             draft.add("Require", &value);
         }
-        5 => draft.set_uri(&pick(dice, &["sip:h", "sip:alice@h", "tel:1", "sip:1234567@h", "sip:+0123456789@h", "tel:+1", "sip:+331234@h", "sip:12a@h"])),
+        5 => {
+            let value = malformed_privacy(dice);
+            draft.set(16, &value);
+        }
+        6 => {
+            // Behind another one it comes again.
+            let value = privacy(dice);
+            draft.add("Privacy", &value);
+        }
+        7 => draft.set_uri(&pick(dice, &["sip:h", "sip:alice@h", "tel:1", "sip:1234567@h", "sip:+0123456789@h", "tel:+1", "sip:+331234@h", "sip:12a@h"])),
         _ => of_either(dice, draft, column),
     }
+}
+
+/// A Privacy in which a way to hide stands, and which is refused.
+fn malformed_privacy(dice: &mut Dice) -> Vec<u8> {
+    let forms = [("", ";"), (";", ""), ("", ";;id"), ("", "; ;id"), ("", ",id"), ("", " none"), ("none\r\n ", ""), ("\"", "\""), ("", "=1"), ("<", ">"), ("", "\u{e9}")];
+    let (front, back) = *dice.pick(&forms);
+    [front.as_bytes(), &way(dice), back.as_bytes()].concat()
 }
 
 /// In a response.

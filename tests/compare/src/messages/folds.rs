@@ -1,6 +1,6 @@
 //! Values with folds in them, short and long, where a caller is masked or called.
 
-use super::values::{blanks, full_number, is_token, pick, text};
+use super::values::{blanks, full_number, is_token, pick, privacy, text, way};
 use second::drafts::{in_any_case, Dice, Draft};
 
 fn fold(dice: &mut Dice) -> Vec<u8> {
@@ -55,6 +55,18 @@ pub fn withhold(dice: &mut Dice, draft: &mut Draft) {
     let tag = [fold(dice), b";".to_vec(), blanks(dice), in_any_case(dice, b"tag"), blanks(dice), b"=".to_vec(), blanks(dice), text(dice, 64, is_token)].concat();
     let parameters = if dice.one_in(2) { [tag, more] } else { [more, tag] }.concat();
     draft.set(3, &[display, b"<sip:a@h>".to_vec(), parameters].concat());
-    let privacy = pick(dice, &["id", "ID", "none;id", "id;\r\n user", "none\r\n ;\r\n iD"]);
+    let privacy = withholding(dice);
     draft.set(16, &privacy);
+}
+
+/// A Privacy that holds one of the ways to hide, mostly beside others and folded; some are long.
+fn withholding(dice: &mut Dice) -> Vec<u8> {
+    let mark = [fold(dice), b";".to_vec(), fold(dice)].concat();
+    match dice.below(5) {
+        0 => way(dice),
+        1 => [b"none".to_vec(), mark, way(dice)].concat(),
+        2 => [way(dice), mark, b"none".to_vec()].concat(),
+        3 => [[b"x".to_vec(), mark].concat().repeat(dice.below(500)), way(dice)].concat(),
+        _ => [privacy(dice), mark, way(dice)].concat(),
+    }
 }

@@ -15,7 +15,7 @@ pub use odd::{carrying, phrased, CARRIERS, ODD_BYTES};
 use second::drafts::{renamed, Dice, Draft, Whole, COLUMN_METHODS, REQUESTS, RESPONSES};
 use second::profile::{self, COLUMNS, ROWS};
 use second::start::Start;
-use values::{called, pick, uri, value};
+use values::{called, pick, privacy, uri, value};
 
 /// A message whose parts are known, for demand 3.
 pub fn draft(dice: &mut Dice) -> Draft {
@@ -74,6 +74,10 @@ fn all_fields(dice: &mut Dice, draft: &mut Draft, column: usize) {
 /// What an INVITE is masked by and what its caller is called by; in a response neither counts.
 fn identities(dice: &mut Dice, draft: &mut Draft, column: usize) {
     let invite = COLUMN_METHODS[column] == "INVITE";
+    if invite && dice.one_in(2) {
+        let value = privacy(dice);
+        draft.set(16, &value);
+    }
     if invite && dice.one_in(10) {
         folds::withhold(dice, draft);
     }
@@ -136,7 +140,7 @@ fn stretch(dice: &mut Dice, draft: &mut Draft) {
         3 | 4 => *dice.pick(&[("\"", "\\\"", "\" <sip:h>;tag=1"), ("<sip:h;", "%41", ">;tag=1"), ("<sip:h>;tag=1", ";a=\"b\"", ""), ("", "a ", "<sip:h>;tag=1"), ("<sip:h>", " ", ";tag=1")]),
         14 => ("", "timer , ", *dice.pick(&["timer", "x"])),
         15 => ("", "a ", "<sip:+1234567@h>"),
-        16 => ("", "x ;\t", "id"),
+        16 => *dice.pick(&[("", "x ;\t", "id"), ("", "none;", "USER"), ("none", "\r\n ;x", ";Header"), ("header", ";x", ""), ("User\t", ";\r\n none", ""), ("", "users;", "username")]),
         _ => *dice.pick(&[("", "a", ""), ("", "\r\n ", "x"), ("", "x\r\n\t", "x"), ("", " ", "x"), ("x", " ", "")]),
     };
     let room = 8192usize.saturating_sub(draft.bytes().len());

@@ -5,8 +5,9 @@ use second::drafts::{Dice, Draft, Whole};
 use second::profile;
 
 /// What carries a value with an odd byte: the number of the field, 0 for one that is not listed, and what stands around the value.
-pub const CARRIERS: [(u64, &str, &str); 8] = [
-    (0, "", ""), (1, "", ""), (3, "\"", "\" <sip:h>;tag=1"), (3, "<sip:h>;tag=1;a=", ""), (5, "", ""), (14, "timer,", ""), (15, "\"", "\" <sip:+1234567@h>"), (16, "id;", ""),
+pub const CARRIERS: [(u64, &str, &str); 9] = [
+    (0, "", ""), (1, "", ""), (3, "\"", "\" <sip:h>;tag=1"), (3, "<sip:h>;tag=1;a=", ""), (5, "", ""), (14, "timer,", ""), (15, "\"", "\" <sip:+1234567@h>"), (16, "Header;", ""),
+    (16, "", ";uSER"),
 ];
 
 /// Bytes at the borders of what a value may hold.

@@ -23,7 +23,7 @@ pub fn value(dice: &mut Dice, number: u64, column: usize) -> Vec<u8> {
         8 => pick(dice, &["0", "00", "00000"]),
         14 => tokens(dice, &["timer", "100rel", "Timer", "100REL"], ","),
         15 => asserted(dice),
-        16 => tokens(dice, &["id", "ID", "none", "user", "identity", "header", "i", "session"], ";"),
+        16 => privacy(dice),
         12 | 13 | 17 => pick(dice, &["", "INVITE, ACK", "a/b;q=\"x\"", ",,;", "timer\r\n ,100rel", "\u{e9}\t\""]),
         _ => pick(dice, &["x", "SIP/2.0/UDP h;branch=z9hG4bK1", "<sip:a@h;lr>,\r\n <sip:b>", "a\t b  c", "\"\\\"", "\u{ff}"]),
     }
@@ -57,14 +57,57 @@ pub fn is_token(byte: u8) -> bool {
 }
 
 pub fn tokens(dice: &mut Dice, words: &[&str], mark: &str) -> Vec<u8> {
-    let mut out = dice.pick(words).as_bytes().to_vec();
-    for _ in 0..dice.below(4) {
-        out.extend(dice.pick(&["", " ", "\t", "\r\n ", " \r\n\t "]).as_bytes());
+    let more = dice.below(4);
+    list(dice, more, mark, |dice| pick(dice, words))
+}
+
+/// A token and so many more, with blanks and folds around the marks.
+fn list(dice: &mut Dice, more: usize, mark: &str, token: impl Fn(&mut Dice) -> Vec<u8>) -> Vec<u8> {
+    let mut out = token(dice);
+    for _ in 0..more {
+        out.extend(dice.pick(&["", " ", "\t", "\r\n ", " \r\n\t ", "  ", "\r\n \r\n\t"]).as_bytes());
         out.extend(mark.as_bytes());
-        out.extend(dice.pick(&["", " ", "\t ", "\r\n "]).as_bytes());
-        out.extend(dice.pick(words).as_bytes());
+        out.extend(dice.pick(&["", " ", "\t ", "\r\n ", " \r\n \r\n "]).as_bytes());
+        out.extend(token(dice));
     }
     out
+}
+
+/// Privacy: the ways to hide, what only looks like them, and what else may stand there.
+pub fn privacy(dice: &mut Dice) -> Vec<u8> {
+    let more = if dice.one_in(16) { dice.below(40) } else { dice.below(4) };
+    list(dice, more, ";", |dice| match dice.below(3) {
+        0 => way(dice),
+        1 => near_way(dice),
+        _ => pick(dice, &["none", "none", "None", "session", "critical", "history", "x"]),
+    })
+}
+
+/// One of the three ways to hide, in any letter case.
+pub fn way(dice: &mut Dice) -> Vec<u8> {
+    let way = *dice.pick(&["header", "user", "id"]);
+    in_any_case(dice, way.as_bytes())
+}
+
+/// One byte more, less or other than a way to hide has, or a longer word that holds one.
+fn near_way(dice: &mut Dice) -> Vec<u8> {
+    let mut token = way(dice);
+    let place = dice.below(token.len());
+    match dice.below(6) {
+        0 => token.insert(place, *dice.pick(b"xX-.%")),
+        1 => token.push(*dice.pick(b"sSdD-.")),
+        2 => {
+            token.remove(place);
+        }
+        3 => token[place] = *dice.pick(b"xX_0"),
+        4 => {
+            // A capital less 32 is no letter, and often no token.
+            let other = token[place].to_ascii_uppercase() - 32;
+            token[place] = if is_token(other) { other } else { b'x' };
+        }
+        _ => return pick(dice, &["username", "identity", "Identity", "user-id", "headers", "userid", "x-header"]),
+    }
+    token
 }
 
 fn digits(dice: &mut Dice, length: usize) -> String {
