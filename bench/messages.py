@@ -15,13 +15,14 @@ SHAPE-LENGTH    messages that ask for the most work, accepted, of 1,000 to 8,192
   bare          the same, each parameter as short as can be
   folded        the same, with a fold before each
   tags          many required tags
+  privacy       many tokens of Privacy, each as short as can be, the last one withholds the caller
   fields        96 fields
 """
 import os
 import sys
 
 LENGTHS = [1000, 2000, 3000, 4000, 6000, 8192]
-SHAPES = ["folds", "quoted", "parameters", "bare", "folded", "tags", "fields"]
+SHAPES = ["folds", "quoted", "parameters", "bare", "folded", "tags", "privacy", "fields"]
 
 CALL = """INVITE sip:+33123456789@gw.example SIP/2.0
 v: SIP/2.0/UDP relay.example;branch=z9hG4bK7
@@ -180,6 +181,8 @@ def shaped(shape, length):
         return stretched("From", "<sip:+33187654321@a.example>", "\r\n ;a", ";tag=1", length)
     if shape == "tags":
         return stretched("Require", "timer", ",timer", "", length)
+    if shape == "privacy":
+        return stretched("Privacy", "none", ";x", ";user", length)
     return many_fields(length)
 
 

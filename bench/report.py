@@ -16,11 +16,12 @@ END = "<!-- bench/run writes up to here -->"
 NAMES = ["mishkolar", "second", "osip", "sofia"]
 TITLES = {"mishkolar": "Mishkolar", "second": "second", "osip": "libosip2", "sofia": "sofia-sip"}
 COLOURS = {"mishkolar": "#0b5fa5", "second": "#7a7a7a", "osip": "#c2571a", "sofia": "#2d7d46"}
-SHAPES = ["folds", "quoted", "parameters", "bare", "folded", "tags", "fields"]
+SHAPES = ["folds", "quoted", "parameters", "bare", "folded", "tags", "privacy", "fields"]
 WORDS = {
     "call": "the build description's call", "call-200": "a 200 to it", "call-180": "a 180 to it", "invite": "INVITE with a body",
     "invite-200": "a 200 to it with a body", "folds": "folds", "quoted": "one quoted string", "parameters": "parameters",
-    "bare": "short parameters", "folded": "a fold before each parameter", "tags": "required tags", "fields": "96 fields", "empty": "80 empty fields",
+    "bare": "short parameters", "folded": "a fold before each parameter", "tags": "required tags", "privacy": "tokens of Privacy",
+    "fields": "96 fields", "empty": "80 empty fields",
     "refused-3": "the INVITE refused early: start line", "refused-4": "refused in the middle: a field without colon", "refused-12": "refused late: no Allow",
     "calling": "calling number", "count": "count of Via", "reading": "reading of the first Via",
 }

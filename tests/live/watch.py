@@ -6,6 +6,9 @@ and sends is then held to what `second screen` prescribes for that message and t
 reaches the other end, and nothing there where the message is refused; an answer with the reply status to the sender, and none where that
 is 0. Only what has come through goes on to the sipp behind it.
 
+Who is hidden is also judged here, from the pages and not by `second`, so that a rule that both have wrong is found. An INVITE out to side 1
+whose Privacy holds `header`, `user` or `id` has an anonymous From and no P-Asserted-Identity; every other INVITE has both as they came.
+
 use: watch.py SIDE FIRST_PORT FORWARDER SECOND [CASES]
 
 SIDE is the called one's, the caller has the other. The five ports from FIRST_PORT on are those of the calling sipp, the near end, the
@@ -13,6 +16,7 @@ forwarder, the far end and the called sipp. CASES is a file of recorded cases (c
 sipps have finished. Ends at SIGTERM with a summary; exit status 0 where all was as prescribed, and all was seen that must be.
 """
 import collections
+import re
 import select
 import signal
 import socket
@@ -23,6 +27,8 @@ HOST = "127.0.0.1"
 ROOM = 9216
 PATIENCE = 2.0     # seconds in which something that must come comes
 MASKED = b'"Anonymous" <sip:anonymous@anonymous.invalid>;tag='
+HIDING = {b"header", b"user", b"id"}    # tokens of Privacy
+COMPACT = {b"From": b"f"}               # compact forms of the names that are looked for
 
 # What the sipps must have brought about, on either side: kinds accepted, replies, and numbers of what is dropped without one.
 ACCEPTED = ["INVITE", "INVITE (later)", "ACK", "BYE", "CANCEL", "OPTIONS"]
@@ -107,6 +113,8 @@ class Watch:
         onward = self.received(receiver, PATIENCE if reason == 0 else 0)
         if onward != (outgoing if reason == 0 else None):
             self.fault("the outgoing message differs", message, outgoing, onward)
+        if onward is not None and caller(onward) != due(message, receiver.side):
+            self.fault("the caller is shown or hidden against the pages", message, due(message, receiver.side), caller(onward))
         back = self.received(sender, PATIENCE if reply != 0 else 0)
         if (back or b"").split(b" ")[:2] != ([b"SIP/2.0", b"%d" % reply] if reply != 0 else [b""]):
             self.fault("the answer differs", message, reply, back)
@@ -115,9 +123,10 @@ class Watch:
     def handle(self, message, sender):
         receiver = self.far if sender is self.near else self.near
         numbers, onward, back = self.screened(message, sender)
-        self.live[(kind(message, numbers, onward), numbers)] += 1
+        what = kind(message, numbers, onward)
+        self.live[(what, numbers)] += 1
         if onward is not None:
-            self.shown.update(shown(message, onward))
+            self.shown.update(shown(what, message, onward))
             receiver.socket.sendto(onward, receiver.sipp)
         if back is not None:
             sender.socket.sendto(back, sender.sipp)
@@ -154,23 +163,27 @@ class Watch:
             place += 5 + length
         self.nothing_more()
 
+    def to_show(self):
+        """What accepted messages must have shown."""
+        outcomes = {asked: "hidden" if self.far.side == 1 else "as it came" for asked in WITHHELD}
+        outcomes[OPEN] = "as it came"
+        invites = [outcome_line(what, asked, outcomes[asked]) for what in ("INVITE", "INVITE (later)") for asked in outcomes]
+        return SHOWN + invites + [outcome_line(what, asked, "as it came") for what, asked in ELSEWHERE]
+
     def lacking(self):
         """What must have been seen, and was not."""
         nothing = (0, 0, 0, 0)
         lacking = [kind for kind in ACCEPTED if (kind, nothing) not in self.live]
         lacking += [f"reply {reply}" for reply in REPLIES if not any(numbers[1] == reply for _, numbers in self.live)]
         lacking += [f"{kind} dropped: {numbers}" for kind, every in DROPPED.items() for numbers in every if (kind, numbers) not in self.live]
-        lacking += [what for what in SHOWN if what != HIDDEN and not self.shown[what]]
-        if (self.shown[HIDDEN] > 0) != (self.far.side == 1):
-            lacking.append(HIDDEN + ", on side 1 only")
-        return lacking
+        return lacking + [what for what in self.to_show() if not self.shown[what]]
 
     def summary(self):
         print(f"requests to side {self.far.side}, responses to side {self.near.side}: {sum(self.live.values())} messages of the sipps, "
               f"{sum(self.recorded.values())} recorded, {self.faults} faults")
         for (what, numbers), count in sorted(self.live.items()):
             print(f"{count:>6}  {what:<15} " + ("accepted" if numbers[0] == 0 else "reason %d, reply %d, detail %d, missing %d" % numbers))
-        for what in SHOWN:
+        for what in sorted({*self.to_show(), *self.shown}):
             print(f"{self.shown[what]:>6}  {what}")
         for (what, reason), count in sorted(self.recorded.items()):
             print(f"{count:>6}  recorded {what}, " + ("accepted" if reason == 0 else f"reason {reason}"))
@@ -181,11 +194,42 @@ class Watch:
 
 
 def value(message, name):
-    """The value of the first field with this long name, or nothing."""
-    for line in message.split(b"\r\n\r\n")[0].split(b"\r\n")[1:]:
-        if line.startswith(name + b": "):
-            return line[len(name) + 2:]
+    """The canonical value of the first field with this name, in any letter case, or From's compact one; or nothing."""
+    fields = re.sub(rb"[ \t]*(\r\n[ \t]+)+", b" ", message.split(b"\r\n\r\n")[0]).split(b"\r\n")[1:]
+    for found, _, rest in (field.partition(b":") for field in fields):
+        if found.rstrip(b" \t").lower() in (name.lower(), COMPACT.get(name)):
+            return rest.strip(b" \t")
     return b""
+
+
+def privacy(message):
+    """The tokens of Privacy in small letters."""
+    return [token.strip(b" \t").lower() for token in value(message, b"Privacy").split(b";")]
+
+
+def tag(address):
+    """The value of the tag parameter: the last one outside quotes and angle brackets, as a bare URI may have the same text before."""
+    bare = re.sub(rb'"(\\.|[^"\\])*"|<[^>]*>', b"", address)
+    return b"".join(re.findall(rb"(?i);[ \t]*tag[ \t]*=[ \t]*([^ \t;]+)", bare)[-1:])
+
+
+def caller(message):
+    return value(message, b"From"), value(message, b"P-Asserted-Identity")
+
+
+def masked(message):
+    return MASKED + tag(value(message, b"From")), b""
+
+
+def unmasked(message):
+    """The caller as it came. Outside INVITE, Privacy and P-Asserted-Identity are ignored."""
+    return caller(message) if message.startswith(b"INVITE ") else (value(message, b"From"), b"")
+
+
+def due(message, side):
+    """The caller as an accepted message must show it, by the pages."""
+    hidden = side == 1 and message.startswith(b"INVITE ") and HIDING.intersection(privacy(message))
+    return masked(message) if hidden else unmasked(message)
 
 
 def is_response(message):
@@ -204,25 +248,36 @@ def kind(message, numbers, outgoing):
 
 
 # What an accepted message shows beyond its bytes being those prescribed.
-HIDDEN = "requests with the caller hidden"
 IGNORED = "responses that lost X-Relay-Mode, Privacy and P-Asserted-Identity"
 LONG = "responses with compact names that became long"
-OPEN = "responses with Privacy: id and From as it came"
 BARE = "responses to CANCEL that lost Contact and Allow"
-SHOWN = [HIDDEN, IGNORED, LONG, OPEN, BARE]
+UNMASKED = "responses with Privacy: %s and From as it came"
+SHOWN = [IGNORED, LONG, BARE] + [UNMASKED % token.decode() for token in sorted(HIDING)]
+
+# Values of Privacy with which INVITEs must have come, in small letters: those that withhold the caller, and one that does not.
+WITHHELD = ["header", "user", "id", "none;user"]
+OPEN = "none;identity"
+# Other requests that must have come, with the Privacy that would withhold the caller of an INVITE.
+ELSEWHERE = [(what, asked) for what in ("ACK", "BYE") for asked in WITHHELD] + [("CANCEL", "id"), ("OPTIONS", "id")]
 
 
-def shown(message, outgoing):
+def outcome_line(what, asked, outcome):
+    return f"{what} with Privacy: {asked}, the caller {outcome}"
+
+
+def shown(what, message, outgoing):
+    asked = b";".join(privacy(message)).decode("latin-1")
     if not is_response(message):
-        if value(outgoing, b"From").startswith(MASKED) and not value(outgoing, b"P-Asserted-Identity"):
-            yield HIDDEN
+        if asked:
+            outcomes = {unmasked(message): "as it came", masked(message): "hidden"}
+            yield outcome_line(what, asked, outcomes.get(caller(outgoing), "changed"))
         return
     if lost(message, outgoing, b"X-Relay-Mode", b"Privacy", b"P-Asserted-Identity"):
         yield IGNORED
-    if b"\r\nv: " in message and b"\r\nf: " in message and value(outgoing, b"Via") and value(outgoing, b"From"):
+    if b"\r\nv: " in message and b"\r\nf: " in message and b"\r\nVia: " in outgoing and b"\r\nFrom: " in outgoing:
         yield LONG
-    if value(message, b"Privacy") == b"id" and value(message, b"From") == value(outgoing, b"From") and b"anonymous" not in outgoing:
-        yield OPEN
+    if asked and value(message, b"From") == value(outgoing, b"From") and b"anonymous" not in outgoing:
+        yield UNMASKED % asked
     if value(outgoing, b"CSeq").endswith(b" CANCEL") and lost(message, outgoing, b"Contact", b"Allow"):
         yield BARE
 
