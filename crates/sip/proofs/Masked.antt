@@ -1,7 +1,7 @@
 -- Who is masked: a column that is not INVITE's ignores Privacy, and both of INVITE's ignore the same, row by row of the table.
 use mathlib.Core.Path.{_≡_, refl, sym}
 use mathlib.Core.Bool.{Bool, true, false, cond}
-use mathlib.Core.List.{List, [], _∷_}
+use mathlib.Core.List.{List, [], _∷_, map}
 use mathlib.Core.Option.{Option, none, some}
 use Prim.Native.Nat.{ℕ}
 use lib.Dec.{eqb}
@@ -65,29 +65,28 @@ only-invites m l h r e a w = of-invite m l h r e a w
 
 -- ---- both INVITE columns ignore the same
 
-data Alike : List Row → Type 0 where
-  no-rows : Alike []
-  row-and : {r : Row} {rs : List Row} → isIgnored (r .re) ≡ isIgnored (r .invite) → Alike rs → Alike (r ∷ rs)
+-- which rows a column ignores
+abbrev ignoredRows : Column → List Row → List Bool
+ignoredRows c rs = map (λ (r : Row). isIgnored (markIn c r)) rs
 
-alike : Alike rows
+alike : ignoredRows Reinvite rows ≡ ignoredRows Invite rows
 unfolding rows
-alike =
-    row-and refl (row-and refl (row-and refl (row-and refl (row-and refl (row-and refl (row-and refl (row-and refl (row-and refl
-    (row-and refl (row-and refl (row-and refl (row-and refl (row-and refl (row-and refl (row-and refl (row-and refl (row-and refl
-    no-rows)))))))))))))))))
+alike = refl
 
 abbrev markOr : Column → Option Row → Mark
 markOr c none = I
 markOr c (some r) = markIn c r
 
-found-alike : (rs : List Row) → Alike rs → (n : ℕ) → isIgnored (markOr Reinvite (find rs n)) ≡ isIgnored (markOr Invite (find rs n))
+found-alike :
+    (rs : List Row) → ignoredRows Reinvite rs ≡ ignoredRows Invite rs → (n : ℕ)
+    → isIgnored (markOr Reinvite (find rs n)) ≡ isIgnored (markOr Invite (find rs n))
 unfolding find
-found-alike [] a n = refl
-found-alike (r ∷ rs) (row-and e a) n = go (eqb (r .number) n) (found-alike rs a n)
+found-alike [] e n = refl
+found-alike (r ∷ rs) e n = go (eqb (r .number) n) (found-alike rs (cc) n)
   where
     go : (t : Bool) → isIgnored (markOr Reinvite (find rs n)) ≡ isIgnored (markOr Invite (find rs n))
         → isIgnored (markOr Reinvite (cond t (some r) (find rs n))) ≡ isIgnored (markOr Invite (cond t (some r) (find rs n)))
-    go true p = e
+    go true p = cc
     go false p = p
 
 pub same-ignored : SameIgnored

@@ -16,12 +16,13 @@ use Rattle.sip.specs.Refusals.{Answer, refusal, silent, replied, Lines, 
 use Rattle.sip.specs.Refusals.{Passed, passed, Judgement, refused, accepted, firstCSeqMethod, statusOf, responseReasons}
 use Rattle.sip.specs.Refusals.{responseColumnOf, judgedResponse, messageColumn, keptOf, judgement}
 use Rattle.sip.specs.Values.{isGlobal}
-use Rattle.sip.specs.Screen.{masks, delivered, screened}
+use Rattle.sip.specs.Screen.{delivered, screened}
 use Rattle.sip.specs.Readings.{callingNumber}
 use Rattle.sip.specs.Promises.{NoReply, NothingAnonymous, ResponseCalling}
 use Rattle.sip.proofs.Tests.{never}
 use Rattle.sip.proofs.Accepted.{not-both, judged-inv}
 use Rattle.sip.proofs.Firsts.{ignored-none, column-once}
+use Rattle.sip.proofs.Masked.{only-withheld-masked}
 
 -- ---- no reply
 
@@ -123,9 +124,9 @@ module _ (m : List ℕ) (l : StatusLine) (h : Header) (e : lines m ≡ read (res
         go none false p u = not-both (rw u at taken)
         go none true p u = not-both (rw (u, once, p) at taken)
 
-  unmasked : (r : Passed) → judgement m ≡ accepted r → masks 1 r ≡ masks 0 r
-  unfolding masks withheld ignored mark find rows
-  unmasked r q = rw (made r q, none-kept 16 refl refl refl r q) refl
+  not-withheld : (r : Passed) → judgement m ≡ accepted r → withheld (r .fields) ≡ false
+  unfolding withheld ignored mark find rows
+  not-withheld r q = rw (made r q, none-kept 16 refl refl refl r q) refl
 
   same-sides : (buffer : List ℕ) → screened m 1 buffer ≡ screened m 0 buffer
   unfolding screened
@@ -133,7 +134,7 @@ module _ (m : List ℕ) (l : StatusLine) (h : Header) (e : lines m ≡ read (res
     where
       go : (j : Judgement) → judgement m ≡ j → screened m 1 buffer ≡ screened m 0 buffer
       go (refused a) q = rw q refl
-      go (accepted r) q = rw (q, unmasked r q) refl
+      go (accepted r) q = only-withheld-masked m r q (not-withheld r q) buffer
 
   -- ---- the trunk number
 
