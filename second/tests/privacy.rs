@@ -3,45 +3,19 @@ mod common;
 use common::*;
 use second::{calling_slice, count, reading_slice};
 
-/// What the page's call gives on side 1 where its Privacy, which PRIVACY stands for, withholds the caller.
-const HIDDEN: &str = "INVITE sip:+33123456789@gw.example SIP/2.0
-Via: SIP/2.0/UDP relay.example;branch=z9hG4bK7
-Max-Forwards: 69
-From: \"Anonymous\" <sip:anonymous@anonymous.invalid>;tag=a1
-To: <sip:+33123456789@gw.example>
-Call-ID: 9x@relay.example
-CSeq: 1 INVITE
-Contact: <sip:relay.example>
-Allow: INVITE, ACK, BYE
-Privacy: PRIVACY
-Content-Length: 0
-
-";
-
-/// What it gives on side 0, and where Privacy does not withhold.
-const SHOWN: &str = "INVITE sip:+33123456789@gw.example SIP/2.0
-Via: SIP/2.0/UDP relay.example;branch=z9hG4bK7
-Max-Forwards: 69
-From: <sip:+33187654321@relay.example>;tag=a1
-To: <sip:+33123456789@gw.example>
-Call-ID: 9x@relay.example
-CSeq: 1 INVITE
-Contact: <sip:relay.example>
-Allow: INVITE, ACK, BYE
-P-Asserted-Identity: <sip:+33187654321@relay.example>
-Privacy: PRIVACY
-Content-Length: 0
-
-";
-
 /// The page's call with this Privacy; line breaks are given as LF.
 fn call_asking(value: &str) -> Vec<u8> {
     call_with("Privacy: id", &format!("Privacy: {value}"))
 }
 
+/// What the page's call gives, with this Privacy in place of its own.
+fn with_privacy(text: &str, canonical: &str) -> String {
+    text.replace("Privacy: id", &format!("Privacy: {canonical}"))
+}
+
 /// An accepted call on a side goes out as this text, with this canonical Privacy.
 fn goes_out(message: &[u8], side: u64, text: &str, canonical: &str) {
-    let wanted = crlf(&text.replace("PRIVACY", canonical));
+    let wanted = crlf(&with_privacy(text, canonical));
     let (numbers, out) = run(message, side);
     assert_eq!(numbers, [0, 0, 0, 0, wanted.len() as u64], "{canonical:.40} on side {side}");
     assert!(out == wanted, "{canonical:.40} on side {side}");
@@ -107,15 +81,15 @@ fn what_only_looks_like_them_is_shown() {
 
 #[test]
 fn without_privacy_nobody_is_withheld() {
-    goes_out(&call_with("Privacy: id\n", ""), 1, &SHOWN.replace("Privacy: PRIVACY\n", ""), "");
+    goes_out(&call_with("Privacy: id\n", ""), 1, &SHOWN.replace("Privacy: id\n", ""), "");
     for name in ["Privacys", "Privac", "X-Privacy", "Privacy-Id"] {
         let near = call_with("Privacy: id", &format!("{name}: user"));
-        goes_out(&near, 1, &SHOWN.replace("Privacy: PRIVACY\n", ""), "");
+        goes_out(&near, 1, &SHOWN.replace("Privacy: id\n", ""), "");
         let beside = call_with("Privacy: id", &format!("{name}: user\nPrivacy: none"));
         goes_out(&beside, 1, SHOWN, "none");
     }
     // The second line continues Subject.
-    goes_out(&call_with("Privacy: id", "Subject: x\n Privacy: user"), 1, &SHOWN.replace("Privacy: PRIVACY\n", ""), "");
+    goes_out(&call_with("Privacy: id", "Subject: x\n Privacy: user"), 1, &SHOWN.replace("Privacy: id\n", ""), "");
 }
 
 #[test]
@@ -222,8 +196,8 @@ fn in_a_response_nobody_is_withheld() {
 #[test]
 fn the_room_of_what_goes_out_counts() {
     for value in ["user", "Header", "ID"] {
-        let hidden = HIDDEN.replace("PRIVACY", value);
-        let shown = SHOWN.replace("PRIVACY", value);
+        let hidden = with_privacy(HIDDEN, value);
+        let shown = with_privacy(SHOWN, value);
         for (side, text) in [(1, hidden), (0, shown)] {
             let wanted = crlf(&text);
             let need = wanted.len();

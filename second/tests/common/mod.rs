@@ -6,6 +6,37 @@ use second::{screen, Verdict};
 
 pub type Fields = Vec<(String, Vec<u8>)>;
 
+/// What the page's call gives on side 1.
+pub const HIDDEN: &str = "INVITE sip:+33123456789@gw.example SIP/2.0
+Via: SIP/2.0/UDP relay.example;branch=z9hG4bK7
+Max-Forwards: 69
+From: \"Anonymous\" <sip:anonymous@anonymous.invalid>;tag=a1
+To: <sip:+33123456789@gw.example>
+Call-ID: 9x@relay.example
+CSeq: 1 INVITE
+Contact: <sip:relay.example>
+Allow: INVITE, ACK, BYE
+Privacy: id
+Content-Length: 0
+
+";
+
+/// What it gives on side 0.
+pub const SHOWN: &str = "INVITE sip:+33123456789@gw.example SIP/2.0
+Via: SIP/2.0/UDP relay.example;branch=z9hG4bK7
+Max-Forwards: 69
+From: <sip:+33187654321@relay.example>;tag=a1
+To: <sip:+33123456789@gw.example>
+Call-ID: 9x@relay.example
+CSeq: 1 INVITE
+Contact: <sip:relay.example>
+Allow: INVITE, ACK, BYE
+P-Asserted-Identity: <sip:+33187654321@relay.example>
+Privacy: id
+Content-Length: 0
+
+";
+
 /// A message of the method that is accepted: its mandatory fields, long names.
 pub fn base(method: &str) -> Fields {
     let cseq = format!("1 {method}");
