@@ -16,10 +16,10 @@ extern "C" {
 #endif
 
 /*
- * No function takes more than so many bytes of stack, its return address included. The most that was measured is 11,912, of
- * mishkolar_screen; it is measured by tests/stack/run, and not proved.
+ * No function takes more than so many bytes of stack, its return address included. The most that was measured is 13,048, of
+ * mishkolar_replay; mishkolar_screen takes 11,912. It is measured by tests/stack/run, and not proved.
  */
-#define MISHKOLAR_STACK 12000
+#define MISHKOLAR_STACK 13200
 
 /*
  * Screens one SIP message, a request or a response, that goes to a peer on a side: 0 trusted, 1 untrusted. Its start line says which it is.
@@ -67,6 +67,45 @@ size_t mishkolar_reading(const uint8_t *message, size_t len, uint64_t field, uin
  */
 size_t mishkolar_calling_number(const uint8_t *message, size_t len, const uint8_t *trunk, size_t trunk_len,
                                 size_t *start, uint64_t *from_trunk);
+
+/*
+ * The regulator's quarter: records are replayed through the screen with room enough, and counted.
+ *
+ * A record is the two bytes 53 4E (hex), a byte for the side, two for the message's length, the high byte first, and the message. A text is
+ * any bytes, read as records one after the other. Where a record would start, the text ends with 0 (nothing is left), 31 (a bad mark),
+ * 32 (cut short) or 33 (a record after 1,000,000), in that order.
+ *
+ * What is counted so far stands in three places that the caller keeps and lends:
+ *   counts  60 numbers, 20 for each line of the report: of relay callers (messages with a field named X-Relay-Mode, in any letter case,
+ *           once or more) from counts[0] on, of the others from counts[20] on, of messages with reasons 1 to 5 from counts[40] on. In
+ *           each line the first is how many were accepted, and the number at the place r after it how many were refused with reason r;
+ *   *read   how many records were counted;
+ *   *end    0, or the refusal 31, 32 or 33 that ended the text.
+ * All are 0 before the first record. Any numbers may be lent; a count of 4,294,967,295 stays as it is.
+ */
+
+/*
+ * Counts one record by the answer of the screen. Where *end is not 0 nothing changes; else, where *read is 1,000,000 or more, nothing is
+ * counted and *end is 33.
+ * After any number of records, each with a side of at most 255 and a message of at most 65,535 bytes as a record has them, all three are
+ * what mishkolar_replay leaves for the same records as a text.
+ */
+void mishkolar_take_record(uint32_t counts[60], uint64_t *read, uint64_t *end, uint64_t side, const uint8_t *message, size_t len);
+
+/* Replays a text whole: what its records count, how many were read, and how it ended. What stood there before is written over. */
+void mishkolar_replay(const uint8_t *text, size_t len, uint32_t counts[60], uint64_t *read, uint64_t *end);
+
+/*
+ * Writes the report of such counts to the front of out, and returns its length: four lines, each ended by LF,
+ *   relay CAME ACCEPTED RATE REASON=COUNT ...
+ *   other CAME ACCEPTED RATE REASON=COUNT ...
+ *   unread CAME ACCEPTED RATE REASON=COUNT ...
+ *   end READ END
+ * CAME is the sum of the line's 20 numbers, ACCEPTED the first of them. RATE is the refusals per 10,000 that came, rounded down, 0 where none
+ * came. The pairs are those whose count is above 0, rising. The other bytes of out stay. Where room is too small 0 is returned and out is
+ * untouched; 4,096 bytes are enough for any counts.
+ */
+size_t mishkolar_report(const uint32_t counts[60], uint64_t read, uint64_t end, uint8_t *out, size_t room);
 
 /* The SIP status for a Q.850 cause value. Over 127: 0, and *refusal is 21; else *refusal is 0. */
 uint64_t mishkolar_status_of_cause(uint64_t cause, uint64_t *refusal);

@@ -1,21 +1,17 @@
--- How long the numeral of a number is, and that it is as many of the number's lowest digits: by the two clauses of `digits`.
+-- How many digits a number has, that they are as many of its lowest digits, and that they read as the number: by the two clauses of `digits`.
 use mathlib.Core.Path.{_≡_, refl, sym, ap, _∙_}
 use mathlib.Core.Bool.{Bool, true, false}
 use mathlib.Core.List.{List, [], _∷_, _++_}
-use Prim.Native.Nat.{ℕ, zero, suc, _+_, _/_, _%_, _≤_, _<_}
+use Prim.Native.Nat.{ℕ, zero, suc, _+_, _-_, _*_, _/_, _%_, _^_, _≤_, _<_}
 use native.Mathlib.Omega.{arith}
-use lib.Dec.{ltb}
+use lib.Dec.{leb, ltb}
 use lib.ListN.{length, length-append}
-use borrow.Author.Tests.{lt-ltb, le-ltb, ltb-true, ltb-false}
-use Rattle.sip.specs.Output.{digits, numeral}
-
-abbrev pub last : ℕ → ℕ
-last n = 48 + n % 10
-
--- the i lowest digits
-unfoldable pub lowest : ℕ → ℕ → List ℕ
-lowest zero n = []
-lowest (suc i) n = lowest i (n / 10) ++ (last n ∷ [])
+use borrow.Author.Tests.{lt-ltb, le-ltb, ltb-true, ltb-false, leb-true}
+use Rattle.octets.specs.Scans.{decimal}
+use Rattle.sip.specs.Output.{digits, numeral, wholeNumeral}
+use Rattle.emit.specs.Put.{Wrote}
+use Rattle.emit.specs.Digits.{last, lowest, NumberRead}
+use Rattle.emit.proofs.Laws.{room-no, wrote-as}
 
 pub lowest-length : (i n : ℕ) → length (lowest i n) ≡ i
 unfolding lowest
@@ -44,7 +40,11 @@ module _ (k n : ℕ) where
   more-length : 10 ≤ n → length (digits (suc k) n) ≡ length (digits k (n / 10)) + 1
   more-length h = ap length (more h) ∙ length-append (digits k (n / 10)) (last n ∷ [])
 
-digits-le : (k n : ℕ) → length (digits k n) ≤ k
+one-digit : (n : ℕ) → length (digits 1 n) ≡ 1
+unfolding digits
+one-digit n = below-or-not n 10 (one-length 0 n) (more-length 0 n)
+
+pub digits-le : (k n : ℕ) → length (digits k n) ≤ k
 unfolding digits
 digits-le zero n = omega arith
 digits-le (suc k) n =
@@ -61,8 +61,35 @@ digits-lowest (suc k) n =
     let z : length (digits (suc k) n) ≡ suc (length (digits k (n / 10))) = omega (arith, more-length k n h) in
     more k n h ∙ rw (z, ← digits-lowest k (n / 10)))
 
-pub numeral-lowest : (n : ℕ) → lowest (length (numeral n)) n ≡ numeral n
-numeral-lowest n = sym (digits-lowest 5 n)
+-- ---- writing: by the answer t whether there is room
+
+module _ (d : List ℕ) (at k n : ℕ) {size : ℕ} (l : size ≡ length (digits k n)) {t : Bool} (e : t ≡ leb (at + size) (length d)) where
+  pub digits-fit : t ≡ true → at + size ≤ length d
+  digits-fit q = leb-true (at + size) (length d) (sym e ∙ q)
+
+  pub digits-full : t ≡ false → Wrote d at (digits k n) at d
+  digits-full q = room-no d at (digits k n) (e ∙ rw l) q
+
+  pub digits-written : {r : ℕ} {o : List ℕ} → Wrote d at (lowest size n) r o → Wrote d at (digits k n) r o
+  digits-written w = wrote-as w (digits k n) (rw l (sym (digits-lowest k n)))
+
+-- ---- reading back
+
+decimal-last : (n : ℕ) (s : List ℕ) (b : ℕ) → decimal n (s ++ (b ∷ [])) ≡ decimal n s * 10 + (b - 48)
+unfolding decimal
+decimal-last n [] b = refl
+decimal-last n (c ∷ s) b = decimal-last (n * 10 + (c - 48)) s b
+
+digits-read : (k n : ℕ) → n < 10 ^ k → decimal 0 (digits k n) ≡ n
+unfolding digits decimal
+digits-read zero n h = omega arith
+digits-read (suc k) n h =
+    below-or-not n 10 (λ l. rw (one k n l) (omega arith)) (λ l.
+    let z : decimal 0 (digits k (n / 10)) ≡ n / 10 = digits-read k (n / 10) (omega arith) in
+    rw (more k n l, decimal-last 0 (digits k (n / 10)) (last n), z) (omega arith))
+
+pub number-read : NumberRead
+number-read n h = digits-read 20 n (omega arith)
 
 -- ---- few digits
 
@@ -95,8 +122,27 @@ module _ (n : ℕ) where
   len4 l h = omega (arith, three-more (omega arith), one-length 1 (n / 10 / 10 / 10) (omega arith))
 
   pub len5 : 10000 ≤ n → 5 ≡ length (numeral n)
-  unfolding digits
   len5 l =
       let x : ℕ = n / 10 / 10 / 10 in
-      let top : length (digits 1 (x / 10)) ≡ 1 = below-or-not (x / 10) 10 (one-length 0 (x / 10)) (more-length 0 (x / 10)) in
-      omega (arith, three-more (omega arith), more-length 1 x (omega arith), top)
+      omega (arith, three-more (omega arith), more-length 1 x (omega arith), one-digit (x / 10))
+
+-- ---- counting: size digits, of which the last is not counted off yet, and rest is what they leave
+
+module _ (n rest size : ℕ) (a : 1 ≤ size) (b : size ≤ 20) (e : length (wholeNumeral n) + 1 ≡ size + length (digits (21 - size) rest)) where
+  rest-length : length (wholeNumeral n) + 1 ≡ size + length (digits (suc (20 - size)) rest)
+  rest-length = let z : 21 - size ≡ suc (20 - size) = omega arith in rw z at e
+
+  pub counted-last : rest < 10 → size ≡ length (wholeNumeral n)
+  counted-last h = omega (arith, rest-length, one-length (20 - size) rest h)
+
+  pub counted-next : 10 ≤ rest → {j x : ℕ} → j ≡ size + 1 → x ≡ rest / 10
+      → length (wholeNumeral n) + 1 ≡ j + length (digits (21 - j) x)
+  counted-next h {j} {x} y z =
+      let w : 21 - j ≡ 20 - size = omega arith in
+      rw (w, z) (omega (arith, rest-length, more-length (20 - size) rest h))
+
+  pub counted-all : 20 ≤ size → size ≡ length (wholeNumeral n)
+  counted-all h =
+      let z : 20 - size ≡ 0 = omega arith in
+      let w : length (wholeNumeral n) + 1 ≡ size + length (digits 1 rest) = rw z at rest-length in
+      omega (arith, one-digit rest)

@@ -1,12 +1,13 @@
 // Writes into a lent buffer. A writer that is handed too little room writes nothing.
 ghost use mathlib.Core.Path.{_≡_};
 ghost use mathlib.Core.List.{[], _∷_};
-ghost use Prim.Native.Nat.{_+_, _%_, _≤_, _<_};
+ghost use Prim.Native.Nat.{_+_, _≤_, _<_};
 ghost use lib.Dec.{leb};
 ghost use lib.ListN.{length};
 ghost use Rattle.sip.specs.Lines.{joined, folded, unfoldedAt};
-ghost use Rattle.sip.specs.Output.{numeral};
+ghost use Rattle.sip.specs.Output.{numeral, wholeNumeral};
 ghost use Rattle.emit.specs.Put.{Wrote};
+ghost use Rattle.emit.specs.Digits.{last, lowest};
 
 // A buffer of len bytes has room for size more at the place. No sum is made that could overflow. The size, mostly a constant, goes first.
 fn has_room(len: usize, at: usize, size: usize) -> bool
@@ -31,11 +32,36 @@ fn copy(out: &mut [u8], at: usize, s: &[u8]) -> usize
     at + j
 }
 
+// Writes s at the place, and returns the place after it. Where there is no room the buffer and the place stay.
+pub fn put(out: &mut [u8], at: usize, s: &[u8]) -> usize
+    ensures { λ r. ⌜ Wrote (now (out .entry)) at (now (s .entry)) r (now (out .exit)) ⌝ }
+{
+    if has_room(out.len(), at, s.len()) {
+        return copy(out, at, s);
+    }
+    at
+}
+
 // The last digit of a number, as a byte.
-fn digit(n: usize) -> u8
-    ensures { λ r. ⌜ r ≡ 48 + n % 10 ⌝ }
+fn digit(n: u64) -> u8
+    ensures { λ r. ⌜ r ≡ last n ⌝ }
 {
     (48 + n % 10) as u8
+}
+
+// Writes the lowest digits of a number, size of them, at the place, which has room for them. The last digit is the first to be known.
+fn put_digits(out: &mut [u8], at: usize, n: u64, size: usize) -> usize
+    requires { ⌜ at + size ≤ length (now out) ⌝ }
+    ensures { λ r. ⌜ Wrote (now (out .entry)) at (lowest size n) r (now (out .exit)) ⌝ }
+{
+    let mut left = n;
+    let mut i = size;
+    while 0 < i {
+        i -= 1;
+        out[at + i] = digit(left);
+        left /= 10;
+    }
+    at + size
 }
 
 // How many bytes `put_five_digits` writes.
@@ -63,17 +89,37 @@ pub fn put_five_digits(out: &mut [u8], at: usize, n: usize) -> usize
     ensures { λ r. ⌜ Wrote (now (out .entry)) at (numeral n) r (now (out .exit)) ⌝ }
 {
     let size = five_digits_len(n);
-    if !has_room(out.len(), at, size) {
-        return at;
+    if has_room(out.len(), at, size) {
+        return put_digits(out, at, n as u64, size);
     }
-    let mut left = n;
-    let mut i = size;
-    while 0 < i {
-        i -= 1;
-        out[at + i] = digit(left);
-        left /= 10;
+    at
+}
+
+// How many digits a number has: no number of 64 bits has more than twenty.
+fn whole_number_len(n: u64) -> usize
+    ensures { λ r. ⌜ r ≡ length (wholeNumeral n) ⌝ }
+{
+    let mut rest = n;
+    let mut size = 1;
+    while size < 20 {
+        if rest < 10 {
+            return size;
+        }
+        rest /= 10;
+        size += 1;
     }
-    at + size
+    size
+}
+
+// Writes all digits of a number, without leading zeros. Where there is no room the buffer and the place stay.
+pub fn put_whole_number(out: &mut [u8], at: usize, n: u64) -> usize
+    ensures { λ r. ⌜ Wrote (now (out .entry)) at (wholeNumeral n) r (now (out .exit)) ⌝ }
+{
+    let size = whole_number_len(n);
+    if has_room(out.len(), at, size) {
+        return put_digits(out, at, n, size);
+    }
+    at
 }
 
 // How many bytes a run of gap bytes has once it is joined.

@@ -5,6 +5,9 @@ pub mod Starts
 pub mod Statuses
 pub mod Fields
 pub mod NamedFields
+pub mod Headers
+pub mod FirstLines
+pub mod Finds
 pub mod Spellings
 pub mod Packs
 pub mod Breaks

@@ -4,7 +4,7 @@ use mathlib.Core.List.{List, []}
 use Prim.Native.Nat.{ℕ, _+_, _≤_, _<_}
 use native.Mathlib.Omega.{arith}
 use lib.ListN.{length, take, drop}
-use borrow.Author.Tests.{eq-eqb, ne-eqb, le-leb, lt-leb}
+use borrow.Author.Tests.{eq-eqb, ne-eqb}
 use Rattle.sip.specs.Refusals.{Lines, unread, read, lines}
 use Rattle.sip.specs.Readings.{place, spans, count, readingAt, reading}
 use Rattle.sip.specs.declared.Span.{Span}
@@ -15,7 +15,8 @@ use Rattle.lines.specs.declared.start.Lengths.{Lengths}
 use Rattle.lines.specs.declared.Message.{Message}
 use Rattle.lines.specs.declared.header.Ended.{Ended}
 use Rattle.lines.specs.declared.slots.Counted.{Counted}
-use Rattle.lines.proofs.Starts.{same-line, no-start}
+use Rattle.lines.proofs.Starts.{same-line}
+use Rattle.lines.proofs.Headers.{lines-long, lines-unbegun}
 use Rattle.lines.proofs.Counts.{message-spans}
 
 -- no slots are stored yet
@@ -53,8 +54,8 @@ module _ (m : List ℕ) (e : Ended) (ns : List ℕ) (h : settled m e ns ≡ inde
 
 module _ (m : List ℕ) (l : length m ≤ 8192) {start : Lengths} (e : start ≡ startLengths m) (h : start .line < 1) where
   not-begun : index m ≡ unreadIndex 3
-  unfolding index lines
-  not-begun = rw (le-leb (length m) 8192 l, no-start m (same-line e) h)
+  unfolding index
+  not-begun = rw (lines-unbegun m l (same-line e) h)
 
   pub start-unread : {x : Message} → x ≡ unreadHead 3 → x ≡ index m .head
   start-unread q = q ∙ sym (ap (λ (x : Indexed). x .head) not-begun)
@@ -64,8 +65,8 @@ module _ (m : List ℕ) (l : length m ≤ 8192) {start : Lengths} (e : start ≡
 
 module _ (m : List ℕ) (l : 8192 < length m) where
   too-long : index m ≡ unreadIndex 2
-  unfolding index lines
-  too-long = rw (lt-leb (length m) 8192 l)
+  unfolding index
+  too-long = rw (lines-long m l)
 
   pub long-unread : {x : Message} → x ≡ unreadHead 2 → x ≡ index m .head
   long-unread h = h ∙ sym (ap (λ (x : Indexed). x .head) too-long)

@@ -11,12 +11,11 @@ use lib.Seq.{append-snoc, drop-drop}
 use borrow.Author.Tests.{ltb-true, ltb-false, leb-true, leb-false, le-leb, lt-leb}
 use Rattle.octets.specs.Classes.{isBreak, isValue}
 use Rattle.octets.specs.Scans.{run, any}
-use Rattle.sip.specs.Lines.{Start, start, startSize, startsCRLF, Shape, shape, size, Field, bytes, fieldOf, Header, withField, header}
+use Rattle.sip.specs.Lines.{Start, start, startSize, startsCRLF, Shape, size, Field, bytes, fieldOf, Header, withField, header}
 use Rattle.sip.specs.Profile.{numberOf}
-use Rattle.sip.specs.Refusals.{unread, read, lines}
+use Rattle.sip.specs.Refusals.{unread, read}
 use Rattle.sip.specs.Readings.{valueSpan}
 use Rattle.sip.proofs.Fields.{FieldHere, field-here, length-bytes}
-use Rattle.sip.proofs.Headers.{header-next}
 use Rattle.lines.specs.Places.{fieldAt, namedAt}
 use Rattle.lines.specs.Sizes.{valueEnd}
 use Rattle.lines.specs.Index.{slotOf, slotsOf, padded, Indexed, unreadIndex, readIndex, indexOf, index, noSlot}
@@ -25,10 +24,11 @@ use Rattle.lines.specs.declared.FieldAt.the-variants.{Found, Bad}
 use Rattle.lines.specs.declared.named.Named.{Named}
 use Rattle.lines.specs.declared.Slot.{Slot}
 use Rattle.lines.specs.declared.header.Ended.{Ended}
-use Rattle.lines.proofs.Values.{never, crlf-room}
+use Rattle.lines.proofs.Values.{crlf-room}
 use Rattle.lines.proofs.Starts.{start-found}
 use Rattle.lines.proofs.Fields.{FieldRead, field-bad, field-read, field-fits}
 use Rattle.lines.proofs.NamedFields.{NameRead, name-read, unnamed-field, named-line, endless-field, found-field}
+use Rattle.lines.proofs.Headers.{lines-begun, header-nil, header-done, header-bad, header-found}
 use Rattle.lines.proofs.Packs.{store-next}
 
 -- the message whose fields from place at on are these, with number fields before them, of which done are listed
@@ -46,22 +46,6 @@ pub record Reached (m : List ℕ) (number at count : ℕ) (ns : List ℕ) : Type
   pub counted : count ≡ length done
   pub listed : count ≤ number
   pub same : index m ≡ indexFrom m done number at (header 0 (drop at m))
-
--- ---- the header at a place
-
-header-done : (s : List ℕ) → startsCRLF s ≡ true → header 0 s ≡ some (record { fields = []; rest = drop 2 s })
-unfolding header startsCRLF
-header-done [] e = never e
-header-done (b ∷ s) e = rw e
-
-header-bad : (s : List ℕ) → startsCRLF s ≡ false → shape s ≡ none → header 0 s ≡ none
-unfolding header
-header-bad [] e q = refl
-header-bad (b ∷ s) e q = rw (e, q)
-
-header-nil : header 0 [] ≡ none
-unfolding header
-header-nil = refl
 
 -- ---- one field more
 
@@ -99,11 +83,11 @@ stored-next ns count s done r a b c l = rw (a, c, b) (store-next done r (omega a
 
 module _ (m : List ℕ) (l : length m ≤ 8192) (k : Start) (r : start m ≡ some k) where
   from-header : (o : Option Header) → header 0 (drop (startSize k) m) ≡ o → index m ≡ indexFrom m [] 0 (startSize k) o
-  unfolding index lines startLengths
-  from-header none x = rw (le-leb (length m) 8192 l, r, x)
+  unfolding index startLengths
+  from-header none x = rw (lines-begun m l k r, x)
   from-header (some h) x =
       let z : 0 + length (h .fields) ≡ length (h .fields) = omega arith in
-      rw (le-leb (length m) 8192 l, r, x, z) (few (leb (length (h .fields)) 96))
+      rw (lines-begun m l k r, r, x, z) (few (leb (length (h .fields)) 96))
     where
       few : (t : Bool) → indexOf m (cond t (read k h) (unread 5)) ≡ cond t (readIndex m k h) (unreadIndex 5)
       few true = refl
@@ -222,16 +206,11 @@ module _ (m : List ℕ) (number at count : ℕ) (ns : List ℕ) (h : Reached m n
             ap (λ (k : ℕ). listedSlot k v (take (e - v) (drop v m))) (name .number-is)
             ∙ rw (value-at, a, value-long, drop-drop (found .parts .name + found .parts .gap + 1) at m, b)
 
-        header-is : {k : ℕ} → k ≡ e + 2 → header 0 (drop at m) ≡ withField the (header 0 (drop k m))
-        header-is {k} z =
-            let y : at + size (found .parts) ≡ k = omega (arith, found) in
-            header-next (drop at m) (found .parts) (named-line m at name) (found .reads) ∙ rw (drop-drop (size (found .parts)) at m, y)
-
         module _ {s : Slot} (hs : s ≡ listedSlot (n .number) v (take (e - v) (drop v m)))
             {c : ℕ} (hc : c ≡ cond (keeps count s) (count + 1) count) {ns′ : List ℕ} (hm : ns′ ≡ cond (keeps count s) (stored ns count s) ns)
             {j : ℕ} (hj : j ≡ number + 1) {k : ℕ} (hk : k ≡ e + 2) where
           from : index m ≡ indexFrom m (h .done) number at (withField the (header 0 (drop k m)))
-          from = h .same ∙ ap (indexFrom m (h .done) number at) (header-is hk)
+          from = h .same ∙ ap (indexFrom m (h .done) number at) (header-found m at found hk)
 
           -- what is stored stays
           stays : keeps count s ≡ false

@@ -186,7 +186,7 @@ module _ (s : List ℕ) where
     rest-is : drop (run isValue (drop at s)) (drop at s) ≡ drop line s
     rest-is = drop-drop (run isValue (drop at s)) at s ∙ ap (λ (i : ℕ). drop i s) (sym h)
 
-    line-end : valueEnd s at ≡ valueEnd s line
+    pub line-end : valueEnd s at ≡ valueEnd s line
     unfolding valueEnd
     line-end =
         ap (endAt (length s) at) (past-line (drop at s)) ∙ end-plus at (run isValue (drop at s)) (valueSize 0 (drop (run isValue (drop at s)) (drop at s)))

@@ -59,14 +59,11 @@ fn is_last_line(s: &[u8], line: usize) -> bool
     b' ' < s[next]
 }
 
-// Where the value ends whose first line ends at `line`. At the end of the text where its shape is bad.
-fn value_end(table: &[u8; 256], s: &[u8], line: usize) -> usize
+// Where the value ends whose first line ends at `line`, line by line. At the end of the text where its shape is bad.
+fn last_line(table: &[u8; 256], s: &[u8], line: usize) -> usize
     requires { ⌜ (now table ≡ classTable) × (line ≤ length (now s)) × (run isValue (drop line (now s)) ≡ 0) ⌝ }
     ensures { λ r. ⌜ r ≡ valueEnd (now (s .entry)) line ⌝ }
 {
-    if is_last_line(s, line) {
-        return line;
-    }
     let mut end = line;
     while is_empty_line(s, end) {
         let after = end + 2;
@@ -77,6 +74,17 @@ fn value_end(table: &[u8; 256], s: &[u8], line: usize) -> usize
         end = scan::values(table, s, next);
     }
     s.len()
+}
+
+// The same, with a look first: most values have one line.
+fn value_end(table: &[u8; 256], s: &[u8], line: usize) -> usize
+    requires { ⌜ (now table ≡ classTable) × (line ≤ length (now s)) × (run isValue (drop line (now s)) ≡ 0) ⌝ }
+    ensures { λ r. ⌜ r ≡ valueEnd (now (s .entry)) line ⌝ }
+{
+    if is_last_line(s, line) {
+        return line;
+    }
+    last_line(table, s, line)
 }
 
 // Where the spaces or tabs and the colon end that stand at a place. The place itself where there is no colon.
@@ -114,7 +122,7 @@ pub(crate) struct ValueAt {
     pub folded: bool,
 }
 
-// The value at a place.
+// The value at a place. Only the pass over a message's fields calls it: with a second caller it would no longer be inlined there.
 pub(crate) fn value_at(table: &[u8; 256], s: &[u8], at: usize) -> ValueAt
     requires { ⌜ (now table ≡ classTable) × (at ≤ length (now s)) ⌝ }
     ensures { λ r. ⌜ (r .end ≡ valueEnd (now (s .entry)) at) × (r .folded ≡ not (eqb (r .end) (at + run isValue (drop at (now (s .entry)))))) ⌝ }
@@ -127,6 +135,31 @@ pub(crate) fn value_at(table: &[u8; 256], s: &[u8], at: usize) -> ValueAt
     }
 }
 
+// The same, for the other reader of a field, with a loop of its own: with a second caller `last_line` would no longer be inlined either.
+fn any_value_at(table: &[u8; 256], s: &[u8], at: usize) -> ValueAt
+    requires { ⌜ (now table ≡ classTable) × (at ≤ length (now s)) ⌝ }
+    ensures { λ r. ⌜ (r .end ≡ valueEnd (now (s .entry)) at) × (r .folded ≡ not (eqb (r .end) (at + run isValue (drop at (now (s .entry)))))) ⌝ }
+{
+    let first = scan::values(table, s, at);
+    let mut end = first;
+    while is_empty_line(s, end) {
+        let after = end + 2;
+        if !is_blank(s, after) {
+            return ValueAt {
+                end,
+                folded: end != first,
+            };
+        }
+        let next = end + 3;
+        end = scan::values(table, s, next);
+    }
+    let bad = s.len();
+    ValueAt {
+        end: bad,
+        folded: bad != first,
+    }
+}
+
 // The field at a place of a text, by the class table that is lent. Past the end nothing is named, so that no place needs a test.
 pub(crate) fn read(table: &[u8; 256], s: &[u8], at: usize) -> FieldAt
     requires { ⌜ now table ≡ classTable ⌝ }
@@ -136,11 +169,11 @@ pub(crate) fn read(table: &[u8; 256], s: &[u8], at: usize) -> FieldAt
     if name <= at {
         return FieldAt::Bad;
     }
-    let value = colon_end(table, s, name);
+    let value = blanks_and_colon(table, s, name);
     if value <= name {
         return FieldAt::Bad;
     }
-    let found = value_at(table, s, value);
+    let found = any_value_at(table, s, value);
     let end = found.end;
     if s.len() <= end {
         return FieldAt::Bad;

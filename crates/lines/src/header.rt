@@ -31,11 +31,10 @@ fn clear(slots: &mut [u16; 384])
     *slots = [0u16; 384];
 }
 
-// A message that is not read has no slots.
-pub(crate) fn unread(slots: &mut [u16; 384], reason: u64) -> Message
-    ensures { λ r. ⌜ (r ≡ unreadHead reason) × (now (slots .exit) ≡ zeros 384) ⌝ }
+// A message that is not read, for that reason.
+fn unread_head(reason: u64) -> Message
+    ensures { λ r. ⌜ r ≡ unreadHead reason ⌝ }
 {
-    clear(slots);
     Message {
         reason,
         method: 0,
@@ -44,6 +43,14 @@ pub(crate) fn unread(slots: &mut [u16; 384], reason: u64) -> Message
         rest: 0,
         count: 0,
     }
+}
+
+// The same, which has no slots.
+pub(crate) fn unread(slots: &mut [u16; 384], reason: u64) -> Message
+    ensures { λ r. ⌜ (r ≡ unreadHead reason) × (now (slots .exit) ≡ zeros 384) ⌝ }
+{
+    clear(slots);
+    unread_head(reason)
 }
 
 // The slot of a field of that number whose value v stands at the place at, by the part of v without gaps at both ends. A value of one line
@@ -224,10 +231,9 @@ fn fields(table: &[u8; 256], s: &[u8], slots: &mut [u16; 384], line: usize) -> E
 
 // The message after a start line of these lengths.
 fn after_start(table: &[u8; 256], s: &[u8], slots: &mut [u16; 384], start: Lengths) -> Message
-    requires { ⌜ (now table ≡ classTable) × (length (now s) ≤ 8192) × (start ≡ startLengths (now s)) × (1 ≤ start .line) × (start .line ≤ length (now s)) ⌝ }
+    requires { ⌜ (now table ≡ classTable) × (length (now s) ≤ 8192) × (start ≡ startLengths (now s)) × (1 ≤ start .line) × (start .line ≤ length (now s)) × (now slots ≡ zeros 384) ⌝ }
     ensures { λ r. ⌜ (r ≡ index (now (s .entry)) .head) × (now (slots .exit) ≡ index (now (s .entry)) .slots) ⌝ }
 {
-    clear(slots);
     let end = fields(table, s, slots, start.line);
     let reason = end.reason;
     if reason != 0 {
@@ -243,13 +249,16 @@ fn after_start(table: &[u8; 256], s: &[u8], slots: &mut [u16; 384], start: Lengt
     }
 }
 
+// All lines of a message. The slots are cleared before any byte is looked at: after a loop the compiler would not see that all of them are, and
+// would let the caller clear them too.
 pub(crate) fn lines(table: &[u8; 256], s: &[u8], slots: &mut [u16; 384]) -> Message
     requires { ⌜ (now table ≡ classTable) × (length (now s) ≤ 8192) ⌝ }
     ensures { λ r. ⌜ (r ≡ index (now (s .entry)) .head) × (now (slots .exit) ≡ index (now (s .entry)) .slots) ⌝ }
 {
+    clear(slots);
     let start = start::read(table, s);
     if start.line < 1 {
-        return unread(slots, 3);
+        return unread_head(3);
     }
     after_start(table, s, slots, start)
 }

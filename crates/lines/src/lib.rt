@@ -5,11 +5,13 @@ ghost use lib.ListN.{length};
 ghost use Rattle.sip.specs.Profile.{numberOf};
 ghost use Rattle.sip.specs.Readings.{spans, count, readingAt, reading};
 ghost use Rattle.lines.specs.Places.{startAt, fieldAt};
+ghost use Rattle.lines.specs.Finds.{fieldNamed};
 ghost use Rattle.lines.specs.Index.{index, slotAt};
 ghost use Rattle.lines.specs.Passes.{countedIn};
 use slots::Counted;
 
 mod field;
+mod find;
 mod header;
 mod known;
 mod named;
@@ -151,6 +153,16 @@ pub fn reading(message: &[u8], n: u64, k: u64) -> &[u8]
 {
     let p = reading_at(message, n, k);
     octets::first(octets::rest(message, p.start), p.len)
+}
+
+// One of the well-shaped fields after the first line has that name, whole, as it is written (`f` is not `From`) and in any letter case. Of a
+// message that is read these are its fields.
+pub fn has_field(message: &[u8], name: &[u8]) -> bool
+    ensures { λ r. ⌜ r ≡ fieldNamed (now (message .entry)) (now (name .entry)) ⌝ }
+{
+    let table = octets::class_table();
+    let line = scan::values(&table, message, 0);
+    find::after_line(&table, message, line, name)
 }
 
 // The fields of number n: how many there are, and where the value of the k-th stands. No field of a message that is read has number 0.

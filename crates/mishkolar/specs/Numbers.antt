@@ -1,4 +1,4 @@
--- The numbers that the C boundary hands out, and the buffer, are those of a definition's answer.
+-- The numbers that the C boundary hands out, and what it leaves in lent places, are those of a definition's answer.
 use mathlib.Core.Path.{_≡_}
 use mathlib.Core.Bool.{cond}
 use mathlib.Core.List.{List}
@@ -7,6 +7,7 @@ use lib.ListN.{length}
 use Rattle.octets.specs.Classes.{bit}
 use Rattle.sip.specs.Readings.{callingAt}
 use Rattle.sip.specs.Screen.{Screened}
+use Rattle.records.specs.declared.Replay.{Replay}
 
 pub record Screens (s : Screened) (reason reply detail missing len : ℕ) (buffer : List ℕ) : Type 0 where
   pub same-reason : reason ≡ s .answer .reason
@@ -22,3 +23,7 @@ pub record Calls (m trunk : List ℕ) (len start flag : ℕ) : Type 0 where
   pub same-start : start ≡ callingAt m trunk .start
   pub same-flag : flag ≡ bit (callingAt m trunk .«from_trunk»)
   pub within : start + len ≤ length (cond (callingAt m trunk .«from_trunk») trunk m)
+
+-- what is carried from record to record, in the three places that the caller keeps
+abbrev pub replayOf : List ℕ → ℕ → ℕ → Replay
+replayOf counts read end = record { counts = counts; read = read; end = end }

@@ -1,5 +1,6 @@
 // What a gateway in C or Rust calls: numbers and byte slices only. A slice is a pointer and a length on the C side.
 use gateway::Verdict;
+use records::Replay;
 ghost use mathlib.Core.Path.{_≡_};
 ghost use Prim.Native.Nat.{_+_, _≤_};
 ghost use lib.ListN.{length};
@@ -7,7 +8,11 @@ ghost use Rattle.causes.specs.Causes.{status, cause};
 ghost use Rattle.sip.specs.Readings.{count, readingAt};
 ghost use Rattle.octets.specs.Classes.{bit};
 ghost use Rattle.sip.specs.Screen.{screened};
-ghost use Rattle.mishkolar.specs.Numbers.{Screens, Calls};
+ghost use Rattle.emit.specs.Put.{Wrote};
+ghost use Rattle.records.specs.Records.{recording};
+ghost use Rattle.records.specs.Report.{printed};
+ghost use Rattle.records.specs.Running.{finished, taken, reportOf};
+ghost use Rattle.mishkolar.specs.Numbers.{Screens, Calls, replayOf};
 
 #[no_mangle]
 pub extern "C" fn mishkolar_screen(
@@ -97,4 +102,54 @@ fn flag(b: bool) -> u64
     ensures { λ r. ⌜ r ≡ bit b ⌝ }
 {
     if b { 1 } else { 0 }
+}
+
+#[no_mangle]
+pub extern "C" fn mishkolar_take_record(
+    counts: &mut [u32; 60],
+    read: &mut u64,
+    end: &mut u64,
+    side: u64,
+    message: &[u8],
+)
+    ensures { λ r. ⌜ replayOf (now (counts .exit)) (now (read .exit)) (now (end .exit)) ≡ taken (replayOf (now (counts .entry)) (now (read .entry)) (now (end .entry))) side (now (message .entry)) ⌝ }
+{
+    let before = Replay {
+        counts: *counts,
+        read: *read,
+        end: *end,
+    };
+    let after = records::take_record(before, side, message);
+    let counted = after.counts;
+    *counts = counted;
+    *read = after.read;
+    *end = after.end;
+}
+
+#[no_mangle]
+pub extern "C" fn mishkolar_replay(
+    text: &[u8],
+    counts: &mut [u32; 60],
+    read: &mut u64,
+    end: &mut u64,
+)
+    ensures { λ r. ⌜ replayOf (now (counts .exit)) (now (read .exit)) (now (end .exit)) ≡ finished (recording (now (text .entry))) ⌝ }
+{
+    let whole = records::replay_text(text);
+    let counted = whole.counts;
+    *counts = counted;
+    *read = whole.read;
+    *end = whole.end;
+}
+
+#[no_mangle]
+pub extern "C" fn mishkolar_report(counts: &[u32; 60], read: u64, end: u64, out: &mut [u8]) -> usize
+    ensures { λ r. ⌜ Wrote (now (out .entry)) 0 (printed (reportOf (replayOf (now (counts .entry)) read end))) r (now (out .exit)) ⌝ }
+{
+    let st = Replay {
+        counts: *counts,
+        read,
+        end,
+    };
+    records::put_report(out, st)
 }

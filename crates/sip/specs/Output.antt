@@ -16,9 +16,13 @@ unfoldable pub digits : ℕ → ℕ → List ℕ
 digits zero n = []
 digits (suc k) n = let higher = digits k (n / 10) in cond (ltb n 10) ((48 + n) ∷ []) (higher ++ ((48 + n % 10) ∷ []))
 
--- no number that is written has more than five digits
+-- Max-Forwards and Content-Length have at most five digits
 abbrev pub numeral : ℕ → List ℕ
 numeral n = digits 5 n
+
+-- CR 3: any number of 64 bits; none has more than twenty digits
+abbrev pub wholeNumeral : ℕ → List ℕ
+wholeNumeral n = digits 20 n
 
 -- the start line as it goes out: "`SIP/2.0` (letters in either case, written in capitals)"
 unfoldable pub startLine : Start → List ℕ

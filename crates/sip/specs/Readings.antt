@@ -1,12 +1,12 @@
--- Document 01, "Fields and the calling number", for requests and (CR 1) responses.
-use mathlib.Core.Bool.{true, false, cond}
+-- Document 01, "Fields and the calling number", for requests and (CR 1) responses; and CR 3, a field by its name.
+use mathlib.Core.Bool.{Bool, true, false, cond, _||_}
 use mathlib.Core.List.{List, [], _∷_}
 use mathlib.Core.Option.{Option, none, some}
 use Prim.Native.Nat.{ℕ, zero, suc, _+_}
 use lib.Dec.{eqb}
 use lib.ListN.{length, take, drop}
 use Rattle.octets.specs.Classes.{isGap}
-use Rattle.octets.specs.Scans.{run}
+use Rattle.octets.specs.Scans.{run, sameText}
 use Rattle.sip.specs.declared.Span.{Span}
 use Rattle.sip.specs.declared.CallingAt.{CallingAt}
 use Rattle.sip.specs.Lines.{startSize, Field, bytes, trim, unfoldedAt}
@@ -106,3 +106,18 @@ callingPart m trunk =
     let c = callingAt m trunk in
     let p : Span = record { start = c .start; len = c .len } in
     cond (c .«from_trunk») (part p trunk) (part p m)
+
+-- ---- CR 3: "callers with `X-Relay-Mode` (any case, at least once)"
+
+-- one of the fields has that name, whole and in any letter case
+unfoldable pub named : List ℕ → List Field → Bool
+named name [] = false
+named name (f ∷ fs) = sameText name (f .name) || named name fs
+
+abbrev pub namedIn : List ℕ → Lines → Bool
+namedIn name (unread r) = false
+namedIn name (read l h) = named name (h .fields)
+
+-- the message has a field of that name; none where it has a reason of 2 to 5
+unfoldable pub hasField : List ℕ → List ℕ → Bool
+hasField m name = namedIn name (lines m)

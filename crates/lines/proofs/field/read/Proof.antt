@@ -10,14 +10,14 @@ tokens-requires c κs = search needs
 returns : tie.Need-returns
 returns c = search nameless
 
-colon-end-requires : tie.Need-colon-end-requires
-colon-end-requires c κs = search needs
+blanks-and-colon-requires : tie.Need-blanks-and-colon-requires
+blanks-and-colon-requires c κs = search needs
 
 returns-2 : tie.Need-returns-2
 returns-2 c = search colonless
 
-value-at-requires : tie.Need-value-at-requires
-value-at-requires c κs = search needs
+any-value-at-requires : tie.Need-any-value-at-requires
+any-value-at-requires c κs = search needs
 
 returns-3 : tie.Need-returns-3
 returns-3 c = search endless
@@ -31,8 +31,8 @@ read-spec =
     (tie.spec
     tokens-requires
     returns
-    colon-end-requires
+    blanks-and-colon-requires
     returns-2
-    value-at-requires
+    any-value-at-requires
     returns-3
     returns-4)

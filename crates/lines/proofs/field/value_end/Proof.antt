@@ -1,72 +1,20 @@
--- The invariant: the value ends where what is left of it from `end` on does, and no value byte stands there. The measure is what is left of the text.
-use mathlib.Core.Path.{_≡_}
-use Prim.Native.Nat.{_≤_, _-_}
-use lib.ListN.{length, drop}
-use Rattle.octets.specs.Classes.{isValue}
-use Rattle.octets.specs.Scans.{run}
-use Rattle.lines.specs.Sizes.{valueEnd}
-use Rattle.lines.proofs.Values.{ends-here, ends-bad, ends, next-within, next-less, next-over, next-read}
+-- By the look, or line by line.
+use Rattle.lines.proofs.Values.{ends-here}
 use borrow.Author.Needs.{needs}
 use Rattle.lines.proofs.field.value_end.Statement.{statement}
 use Rattle.lines.proofs.field.value_end.Tie as tie
 
-abbrev Inv-loop : tie.InvT-loop
-Inv-loop table s line end₀ end = (end ≤ length s) × (run isValue (drop end s) ≡ 0) × (valueEnd s line ≡ valueEnd s end)
-
-abbrev μ-loop : tie.MeasureT-loop
-μ-loop table s line end₀ end = length s - end
-
-is-last-line-requires : tie.Need-is-last-line-requires Inv-loop μ-loop
+is-last-line-requires : tie.Need-is-last-line-requires
 is-last-line-requires c κs = search needs
 
-returns : tie.Need-returns Inv-loop μ-loop
+returns : tie.Need-returns
 returns c = search ends-here
 
-loop-holds : tie.Need-loop-holds Inv-loop μ-loop
-loop-holds c = search needs
+last-line-requires : tie.Need-last-line-requires
+last-line-requires c κs = search needs
 
-is-empty-line-requires : tie.Need-is-empty-line-requires Inv-loop μ-loop
-is-empty-line-requires c κs = search needs
-
-add-after : tie.Need-add-after Inv-loop μ-loop
-add-after c = search needs
-
-is-blank-requires : tie.Need-is-blank-requires Inv-loop μ-loop
-is-blank-requires c κs = search needs
-
-returns-2 : tie.Need-returns-2 Inv-loop μ-loop
-returns-2 c = search ends
-
-add-next : tie.Need-add-next Inv-loop μ-loop
-add-next c = search needs
-
-values-requires : tie.Need-values-requires Inv-loop μ-loop
-values-requires c κs = search needs
-
-loop-less : tie.Need-loop-less Inv-loop μ-loop
-loop-less c = search next-less
-
-loop-again : tie.Need-loop-again Inv-loop μ-loop
-loop-again c = search (next-within, next-over, next-read)
-
-returns-3 : tie.Need-returns-3 Inv-loop μ-loop
-returns-3 c = search ends-bad
+returns-2 : tie.Need-returns-2
+returns-2 c = search needs
 
 pub value-end-spec : {M : Type 1} → statement M
-value-end-spec =
-    tie.close
-    (tie.spec
-    Inv-loop
-    μ-loop
-    is-last-line-requires
-    returns
-    loop-holds
-    is-empty-line-requires
-    add-after
-    is-blank-requires
-    returns-2
-    add-next
-    values-requires
-    loop-less
-    loop-again
-    returns-3)
+value-end-spec = tie.close (tie.spec is-last-line-requires returns last-line-requires returns-2)

@@ -5,9 +5,6 @@ use borrow.Author.Needs.{needs}
 use Rattle.lines.proofs.header.after_start.Statement.{statement}
 use Rattle.lines.proofs.header.after_start.Tie as tie
 
-clear-requires : tie.Need-clear-requires
-clear-requires c κs = search needs
-
 fields-requires : tie.Need-fields-requires
 fields-requires c κs = (search needs, search needs, search same-line, search needs, search needs, search cleared)
 
@@ -21,4 +18,4 @@ returns-2 : tie.Need-returns-2
 returns-2 c = search (settled-read, settled-slots)
 
 pub after-start-spec : {M : Type 1} → statement M
-after-start-spec = tie.close (tie.spec clear-requires fields-requires unread-requires returns returns-2)
+after-start-spec = tie.close (tie.spec fields-requires unread-requires returns returns-2)

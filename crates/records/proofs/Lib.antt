@@ -1,0 +1,17 @@
+pub mod Reasons
+pub mod Counting
+pub mod Tables
+pub mod Steps
+pub mod Whole
+pub mod Written
+pub mod Texts
+pub mod Ends
+pub mod Cuts
+pub mod After
+pub mod Back
+pub mod Relay
+pub mod Reports
+pub mod Lengths
+pub mod Placing
+pub mod Promises
+pub mod Examples

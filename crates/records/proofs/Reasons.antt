@@ -1,0 +1,317 @@
+-- The reasons of a replay: those of the judgement, since the room is enough; none is above 17, and those of a message that is not read are 1 to 5.
+use mathlib.Core.Path.{_≡_, refl, sym, ap, _∙_}
+use mathlib.Core.Bool.{Bool, true, false, not, cond, _&&_}
+use mathlib.Core.List.{List, [], _∷_}
+use mathlib.Core.Option.{Option, none, some}
+use Prim.Native.Nat.{ℕ, zero, suc, _≤_, _<_}
+use native.Mathlib.Omega.{arith}
+use lib.Dec.{leb, eqb}
+use lib.ListN.{length, drop}
+use borrow.Author.Tests.{leb-true, leb-false, le-leb, lt-leb, eqb-true, eqb-false}
+use Rattle.octets.specs.Classes.{within}
+use Rattle.sip.specs.declared.Column.{Column}
+use Rattle.sip.specs.Lines.{RequestLine, StatusLine, Start, request, response, Header, start, startSize, header}
+use Rattle.sip.specs.Profile.{columnOf, numbers}
+use Rattle.sip.specs.Values.{isEmpty, uri, person, isCalled}
+use Rattle.sip.specs.Output.{output}
+use Rattle.sip.specs.Refusals.{Answer, refusal, silent, replied, Lines, unread, read, lines, headerLines, Entry, toTagged, bodyOf, when, keptOf}
+use Rattle.sip.specs.Refusals.{otherScheme, isUri, firstRepeat, firstMalformed, exceeds, missingOf, noHops, firstLacking, headOr, isInitial}
+use Rattle.sip.specs.Refusals.{reason7, reason8, reason9, reason10, reason11, reason12, reason13, reason14, reason15, firstOf, reasons}
+use Rattle.sip.specs.Refusals.{responseReasons, Passed, passed, Judgement, refused, accepted, judgedRequest, firstCSeqMethod, statusOf}
+use Rattle.sip.specs.Refusals.{responseColumnOf, judgedResponse, judged, judgement}
+use Rattle.sip.specs.Screen.{masks, delivered, screened}
+use Rattle.sip.specs.Starred.{blankBuffer}
+use Rattle.sip.proofs.Change.{demand3}
+use Rattle.sip.proofs.Growth.{growth}
+use Rattle.sip.proofs.Tests.{never, in-range}
+use Rattle.judgement.specs.declared.Judged.{Judged}
+use Rattle.judgement.specs.Judges.{Judges}
+use Rattle.records.specs.History.{reasonOf}
+use Rattle.records.specs.Promises.{Reads, GroupsRead, FewReasons, RoomEnough, AnyRoom, SameReason}
+
+-- ---- reasons 6 to 15 and 17
+
+record IsLate (n : ℕ) : Type 0 where
+  few : n ≤ 17
+  roomy : n ≡ 16 → ⊥
+
+early-late : (n : ℕ) → n ≤ 15 → IsLate n
+early-late n h = record { few = omega arith; roomy = λ e. omega (arith, e) }
+
+abbrev Late : Option Answer → Type 0
+Late o = (a : Answer) → o ≡ some a → IsLate (a .reason)
+
+late-number : (t : Bool) (n reply detail missing : ℕ) → n ≤ 15 → Late (when t (refusal n reply detail missing))
+late-number true n reply detail missing h a e = let z : refusal n reply detail missing ≡ a = cc in rw (← z) (early-late n h)
+late-number false n reply detail missing h a e = never (cc)
+
+late-first : (o : Option Answer) (rs : List (Option Answer)) → Late o → Late (firstOf rs) → Late (firstOf (o ∷ rs))
+late-first none rs p q = q
+late-first (some x) rs p q = p
+
+late-none : Late (firstOf [])
+late-none a e = never (cc)
+
+module _ (c : Column) (method : List ℕ) (es : List Entry) (rest : List ℕ) where
+  late9 : Late (reason9 es)
+  unfolding reason9
+  late9 = let n : ℕ = firstRepeat [] es in late-number (not (eqb n 0)) 9 400 n 0 (omega arith)
+
+  late10 : Late (reason10 method es)
+  unfolding reason10
+  late10 = let n : ℕ = firstMalformed method es in late-number (not (eqb n 0)) 10 400 n 0 (omega arith)
+
+  late11 : Late (reason11 es rest)
+  unfolding reason11
+  late11 = late-number (exceeds es rest) 11 400 0 0 (omega arith)
+
+  late12 : Late (reason12 c es rest)
+  unfolding reason12
+  late12 =
+      let ns : List ℕ = missingOf c (isEmpty (bodyOf es rest)) es numbers in
+      late-number (not (isEmpty ns)) 12 400 (headOr 0 ns) (length ns) (omega arith)
+
+  late-response : Late (firstOf (responseReasons c method es rest))
+  unfolding responseReasons
+  late-response =
+      let all : List (Option Answer) = responseReasons c method es rest in
+      late-first (reason9 es) (drop 1 all) late9
+      (late-first (reason10 method es) (drop 2 all) late10
+      (late-first (reason11 es rest) (drop 3 all) late11 (late-first (reason12 c es rest) [] late12 late-none)))
+
+late-request : (c : Column) (l : RequestLine) (es : List Entry) (rest : List ℕ) → Late (firstOf (reasons c l es rest))
+unfolding reasons reason7 reason8 reason13 reason14 reason15
+late-request c l es rest =
+    let all : List (Option Answer) = reasons c l es rest in
+    let lacking : ℕ = firstLacking es in
+    late-first (reason7 l) (drop 1 all) (late-number (otherScheme (l .uri)) 7 416 0 0 (omega arith))
+    (late-first (reason8 l) (drop 2 all) (late-number (not (isUri (l .uri))) 8 400 0 0 (omega arith))
+    (late-first (reason9 es) (drop 3 all) (late9 c (l .method) es rest)
+    (late-first (reason10 (l .method) es) (drop 4 all) (late10 c (l .method) es rest)
+    (late-first (reason11 es rest) (drop 5 all) (late11 c (l .method) es rest)
+    (late-first (reason12 c es rest) (drop 6 all) (late12 c (l .method) es rest)
+    (late-first (reason13 es) (drop 7 all) (late-number (noHops es) 13 483 0 0 (omega arith))
+    (late-first (reason14 es) (drop 8 all) (late-number (not (eqb lacking 0)) 14 420 lacking 0 (omega arith))
+    (late-first (reason15 c l) []
+    (late-number (isInitial c && not (isCalled (person (uri (l .uri)) (l .uri)))) 15 484 0 0 (omega arith)) late-none))))))))
+
+replied-reason : (l : Start) (a : Answer) → replied l a .reason ≡ a .reason
+unfolding replied
+replied-reason l a = go (silent l)
+  where
+    go : (t : Bool) → cond t (refusal (a .reason) 0 (a .detail) (a .missing)) a .reason ≡ a .reason
+    go true = refl
+    go false = refl
+
+-- a refusal of which the reason is known
+known : (n reply : ℕ) (a : Answer) → IsLate n → refused (refusal n reply 0 0) ≡ refused a → IsLate (a .reason)
+known n reply a h e = let z : refusal n reply 0 0 ≡ a = cc in rw (← z) h
+
+-- the first reason that applies
+settled-late : (l : Start) (b a : Answer) → IsLate (b .reason) → refused (replied l b) ≡ refused a → IsLate (a .reason)
+settled-late l b a h e = let z : replied l b ≡ a = cc in rw (← z, replied-reason l b) h
+
+request-late : (l : RequestLine) (es : List Entry) (rest : List ℕ) (a : Answer) → judgedRequest l es rest ≡ refused a → IsLate (a .reason)
+unfolding judgedRequest
+request-late l es rest a e = go (columnOf (l .method) (toTagged es)) refl
+  where
+    next : (c : Column) → columnOf (l .method) (toTagged es) ≡ some c → (o : Option Answer) → firstOf (reasons c l es rest) ≡ o
+        → IsLate (a .reason)
+    next c p none x = let z : accepted (passed (request l) es rest) ≡ refused a = rw (p, judgedRequest, x) at e in never (cc)
+    next c p (some b) x = settled-late (request l) b a (late-request c l es rest b x) (rw (p, judgedRequest, x) at e)
+
+    go : (o : Option Column) → columnOf (l .method) (toTagged es) ≡ o → IsLate (a .reason)
+    go none p = known 6 405 a (early-late 6 (omega arith)) (rw (p, judgedRequest) at e)
+    go (some c) p = next c p (firstOf (reasons c l es rest)) refl
+
+response-late : (l : StatusLine) (es : List Entry) (rest : List ℕ) (a : Answer) → judgedResponse l es rest ≡ refused a → IsLate (a .reason)
+unfolding judgedResponse
+response-late l es rest a e = go (within 100 699 (statusOf l)) (responseColumnOf l es) refl refl
+  where
+    next : (c : Column) → within 100 699 (statusOf l) ≡ true → responseColumnOf l es ≡ some c → (o : Option Answer)
+        → firstOf (responseReasons c (firstCSeqMethod es) es rest) ≡ o → IsLate (a .reason)
+    next c p q none x = let z : accepted (passed (response l) es rest) ≡ refused a = rw (p, q, x) at e in never (cc)
+    next c p q (some b) x = settled-late (response l) b a (late-response c (firstCSeqMethod es) es rest b x) (rw (p, q, x) at e)
+
+    go : (t : Bool) (o : Option Column) → within 100 699 (statusOf l) ≡ t → responseColumnOf l es ≡ o → IsLate (a .reason)
+    go false o p q = known 17 0 a (record { few = omega arith; roomy = λ z. omega (arith, z) }) (rw p at e)
+    go true none p q = known 6 0 a (early-late 6 (omega arith)) (rw (p, q) at e)
+    go true (some c) p q = next c p q (firstOf (responseReasons c (firstCSeqMethod es) es rest)) refl
+
+judged-late : (l : Start) (es : List Entry) (rest : List ℕ) (a : Answer) → judged l es rest ≡ refused a → IsLate (a .reason)
+judged-late (request l) es rest a e = request-late l es rest a e
+judged-late (response l) es rest a e = response-late l es rest a e
+
+-- ---- reasons 2 to 5
+
+lines-reason : (m : List ℕ) (n : ℕ) → lines m ≡ unread n → (2 ≤ n) × (n ≤ 5)
+unfolding lines
+lines-reason m n e = go (leb (length m) 8192) (start m) refl refl
+  where
+    number : (k : ℕ) → 2 ≤ k → k ≤ 5 → unread k ≡ unread n → (2 ≤ n) × (n ≤ 5)
+    number k l h q = let z : k ≡ n = cc in (omega arith, omega arith)
+
+    fields : (l : Start) (o : Option Header) → headerLines l o ≡ unread n → (2 ≤ n) × (n ≤ 5)
+    fields l none q = number 4 (omega arith) (omega arith) q
+    fields l (some h) q = few (leb (length (h .fields)) 96) q
+      where
+        few : (t : Bool) → cond t (read l h) (unread 5) ≡ unread n → (2 ≤ n) × (n ≤ 5)
+        few true x = never (cc)
+        few false x = number 5 (omega arith) (omega arith) x
+
+    go : (t : Bool) (o : Option Start) → leb (length m) 8192 ≡ t → start m ≡ o → (2 ≤ n) × (n ≤ 5)
+    go false o p q = number 2 (omega arith) (omega arith) (rw p at e)
+    go true none p q = number 3 (omega arith) (omega arith) (rw (p, q) at e)
+    go true (some l) p q = fields l (header 0 (drop (startSize l) m)) (rw (p, q) at e)
+
+-- ---- the judgement's
+
+-- a reason of a message: none is above 17 or is 16, and one that is not 1 to 5 is of a message that is read
+record ReasonOf (m : List ℕ) (r : ℕ) : Type 0 where
+  few : r ≤ 17
+  roomy : r ≡ 16 → ⊥
+  reads : within 1 5 r ≡ false → Reads m
+
+early : (m : List ℕ) (r : ℕ) → 1 ≤ r → r ≤ 5 → ReasonOf m r
+early m r l h = record { few = omega arith; roomy = λ e. omega (arith, e); reads = λ e. never (cc (in-range 1 5 r l h, e)) }
+
+refused-reason : (m : List ℕ) (a : Answer) → judgement m ≡ refused a → ReasonOf m (a .reason)
+unfolding judgement
+refused-reason m a e = go (lines m) refl
+  where
+    go : (x : Lines) → lines m ≡ x → ReasonOf m (a .reason)
+    go (unread n) q =
+        let z : refused (refusal n 0 0 0) ≡ refused a = rw q at e in
+        let w : refusal n 0 0 0 ≡ a = cc in
+        let (lo, hi) = lines-reason m n q in
+        rw (← w) (early m n (omega arith) hi)
+    go (read l h) q =
+        let late = judged-late l (keptOf l (h .fields)) (h .rest) a (rw q at e) in
+        record { few = late .few; roomy = late .roomy; reads = λ _. record { line = l; header = h; reads = q } }
+
+-- a message that is judged good is read, and has no more than 8,192 bytes
+accepted-reads : (m : List ℕ) (r : Passed) → judgement m ≡ accepted r → Reads m
+unfolding judgement
+accepted-reads m r e = go (lines m) refl
+  where
+    go : (x : Lines) → lines m ≡ x → Reads m
+    go (unread n) q = let z : refused (refusal n 0 0 0) ≡ accepted r = rw q at e in never (cc)
+    go (read l h) q = record { line = l; header = h; reads = q }
+
+accepted-fits : (m : List ℕ) (r : Passed) → judgement m ≡ accepted r → length m ≤ 8192
+unfolding judgement lines
+accepted-fits m r e = go (leb (length m) 8192) refl
+  where
+    go : (t : Bool) → leb (length m) 8192 ≡ t → length m ≤ 8192
+    go true p = leb-true (length m) 8192 p
+    go false p = let z : refused (refusal 2 0 0 0) ≡ accepted r = rw p at e in never (cc)
+
+-- ---- the screen's, with room enough
+
+blank-length : (n : ℕ) → length (blankBuffer n) ≡ n
+unfolding blankBuffer
+blank-length zero = refl
+blank-length (suc n) = ap suc (blank-length n)
+
+sent-whole : (r : Passed) (o b : List ℕ) → length o ≤ length b → delivered r o b .answer .reason ≡ 0
+unfolding delivered
+sent-whole r o b l = rw (le-leb (length o) (length b) l)
+
+-- where there is too little room the reason is 16
+sent-or-16 : (r : Passed) (o b : List ℕ) → (delivered r o b .answer .reason ≡ 16 → ⊥) → delivered r o b .answer .reason ≡ 0
+unfolding delivered
+sent-or-16 r o b h = go (leb (length o) (length b)) refl
+  where
+    go : (t : Bool) → leb (length o) (length b) ≡ t → delivered r o b .answer .reason ≡ 0
+    go true p = rw p
+    go false p = absurd (h (rw p (replied-reason (r .line) (refusal 16 500 (length o) 0))))
+
+-- with any buffer
+module _ (m : List ℕ) (side : ℕ) (b : List ℕ) where
+  side-in : 1 < side → screened m side b .answer .reason ≡ 1
+  unfolding screened
+  side-in l = rw (lt-leb side 1 l)
+
+  refused-in : leb side 1 ≡ true → (a : Answer) → judgement m ≡ refused a → screened m side b .answer .reason ≡ a .reason
+  unfolding screened
+  refused-in s a e = rw (s, e)
+
+  accepted-in : leb side 1 ≡ true → length b ≡ 9216 → (r : Passed) → judgement m ≡ accepted r → screened m side b .answer .reason ≡ 0
+  unfolding screened
+  accepted-in s l r e =
+      let o : List ℕ = output (masks side r) r in
+      let fits : length o ≤ length b = omega (arith, growth m r (masks side r) e, accepted-fits m r e) in
+      rw (s, e) (sent-whole r o b fits)
+
+  accepted-or-16 : leb side 1 ≡ true → (r : Passed) → judgement m ≡ accepted r → (screened m side b .answer .reason ≡ 16 → ⊥)
+      → screened m side b .answer .reason ≡ 0
+  unfolding screened
+  accepted-or-16 s r e h = rw (s, e) (sent-or-16 r (output (masks side r) r) b (rw (s, e) at h))
+
+module _ (m : List ℕ) (side : ℕ) where
+  pub side-reason : 1 < side → 1 ≡ reasonOf m side
+  unfolding reasonOf
+  side-reason l = sym (side-in m side (blankBuffer 9216) l)
+
+  refused-is : leb side 1 ≡ true → (a : Answer) → judgement m ≡ refused a → reasonOf m side ≡ a .reason
+  unfolding reasonOf
+  refused-is s a e = refused-in m side (blankBuffer 9216) s a e
+
+  accepted-is : leb side 1 ≡ true → (r : Passed) → judgement m ≡ accepted r → reasonOf m side ≡ 0
+  unfolding reasonOf
+  accepted-is s r e = accepted-in m side (blankBuffer 9216) s (blank-length 9216) r e
+
+  reason-told : ReasonOf m (reasonOf m side)
+  reason-told = go (leb side 1) (judgement m) refl refl
+    where
+      go : (t : Bool) (j : Judgement) → leb side 1 ≡ t → judgement m ≡ j → ReasonOf m (reasonOf m side)
+      go false j p q = rw (← side-reason (leb-false side 1 p)) (early m 1 (omega arith) (omega arith))
+      go true (refused a) p q = rw (refused-is p a q) (refused-reason m a q)
+      go true (accepted r) p q =
+          rw (accepted-is p r q) (record { few = omega arith; roomy = λ e. omega (arith, e); reads = λ _. accepted-reads m r q })
+
+  any-reason : (b : List ℕ) → (screened m side b .answer .reason ≡ 16 → ⊥) → screened m side b .answer .reason ≡ reasonOf m side
+  any-reason b h = go (leb side 1) (judgement m) refl refl
+    where
+      go : (t : Bool) (j : Judgement) → leb side 1 ≡ t → judgement m ≡ j → screened m side b .answer .reason ≡ reasonOf m side
+      go false j p q = let l : 1 < side = leb-false side 1 p in side-in m side b l ∙ side-reason l
+      go true (refused a) p q = refused-in m side b p a q ∙ sym (refused-is p a q)
+      go true (accepted r) p q = accepted-or-16 m side b p r q h ∙ sym (accepted-is p r q)
+
+  pub reason-few : reasonOf m side < 20
+  reason-few = omega (arith, reason-told .few)
+
+  -- what judging answers
+  pub judged-reason : {slots : List ℕ} {j : Judged} → Judges m slots j → side ≤ 1 → j .refusal .reason ≡ reasonOf m side
+  judged-reason {j = j} h l = go (eqb (j .refusal .reason) 0) refl
+    where
+      one : leb side 1 ≡ true
+      one = le-leb side 1 l
+
+      go : (t : Bool) → eqb (j .refusal .reason) 0 ≡ t → j .refusal .reason ≡ reasonOf m side
+      go true p =
+          let z : j .refusal .reason ≡ 0 = eqb-true (j .refusal .reason) 0 p in
+          let passes = h .accepts z in
+          z ∙ sym (accepted-is one (passes .message) (passes .is-accepted))
+      go false p = sym (refused-is one _ (h .refuses (eqb-false (j .refusal .reason) 0 p)))
+
+  pub judged-few : {slots : List ℕ} {j : Judged} → Judges m slots j → side ≤ 1 → j .refusal .reason < 20
+  judged-few h l = omega (arith, judged-reason h l, reason-few)
+
+-- ---- the promises
+
+pub groups-read : GroupsRead
+groups-read m side = reason-told m side .reads
+
+pub few-reasons : FewReasons
+few-reasons m side = reason-told m side .few
+
+pub room-enough : RoomEnough
+room-enough m side = reason-told m side .roomy
+
+pub any-room : AnyRoom
+any-room m side b h = any-reason m side b h
+
+pub same-reason : SameReason
+unfolding reasonOf
+same-reason m m′ side c = ap (λ (s : _). s .answer .reason) (demand3 m m′ side (blankBuffer 9216) c)

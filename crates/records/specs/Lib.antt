@@ -1,0 +1,8 @@
+pub mod Records
+pub mod History
+pub mod Report
+pub mod Running
+pub mod Pieces
+pub mod Placed
+pub mod Promises
+pub mod Examples
