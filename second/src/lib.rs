@@ -10,7 +10,12 @@
 //!   then the message.
 //! - `second cases` reads such cases and prints for each one line: reason, reply, detail, missing count, length, and the Adler-32 sum of
 //!   the whole buffer, which was filled with A5 (hex) before.
-//! - `second/regenerate` stores the cases and those lines as crates/vectors/stdin and crates/vectors/stdout.
+//! - `second replay` reads records (CR 3) from standard input and prints the report that the replay program prints.
+//! - `second history` writes a file of records with every line and reason of such a report; `second history SEED [COUNT]` one with COUNT
+//!   drawn records among those (2,000 where it is not given).
+//! - `second worked DIR` writes the worked texts of second/reviewed/replay.txt there, each with its reader's report.
+//! - `second/regenerate` stores the cases and their lines as crates/vectors/stdin and crates/vectors/stdout, and the records and their report
+//!   as crates/replay/stdin and crates/replay/stdout.
 //!
 //! `drafts` and `recorded` make messages; all other modules are the implementation.
 
@@ -24,6 +29,7 @@ pub mod output;
 pub mod profile;
 pub mod readings;
 pub mod recorded;
+pub mod replay;
 pub mod request;
 pub mod response;
 pub mod start;

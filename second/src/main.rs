@@ -1,21 +1,33 @@
 //! `second screen [side] [room]`: one message from standard input.
 //! `second record`: writes the recorded cases to standard output.
 //! `second cases`: recorded cases from standard input, one line for each.
+//! `second replay`: records from standard input, the report of all.
+//! `second history [SEED [COUNT]]`: writes records to standard output, the fixed ones or those with COUNT drawn ones among them.
+//! `second worked DIR`: writes the worked texts of records and their reports to DIR, 001.records and 001.report and so on.
 
+use std::fs;
 use std::io::{self, Read, Write};
+use std::path::Path;
 use std::process::exit;
 
-use second::{screen, Verdict};
+use second::recorded::{self, history, worked};
+use second::{replay, screen, Verdict};
 
 const FILLING: u8 = 0xA5;
+
+const USE: &str = "use: second screen [side] [room] | second record | second cases | second replay | second history [SEED [COUNT]] \
+    | second worked DIR";
 
 fn main() {
     let words: Vec<String> = std::env::args().skip(1).collect();
     let done = match words.first().map(String::as_str) {
         Some("screen") => run_screen(&words[1..]),
-        Some("record") => io::stdout().write_all(&second::recorded::file()).map_err(|e| e.to_string()),
+        Some("record") => print(&recorded::file()),
         Some("cases") => run_cases(),
-        _ => Err("use: second screen [side] [room] | second record | second cases".to_string()),
+        Some("replay") => standard_input().and_then(|text| print(replay::report(&text).as_bytes())),
+        Some("history") => run_history(&words[1..]),
+        Some("worked") if words.len() == 2 => run_worked(Path::new(&words[1])),
+        _ => Err(USE.to_string()),
     };
     if let Err(what) = done {
         eprintln!("{what}");
@@ -27,6 +39,10 @@ fn standard_input() -> Result<Vec<u8>, String> {
     let mut bytes = Vec::new();
     io::stdin().read_to_end(&mut bytes).map_err(|e| e.to_string())?;
     Ok(bytes)
+}
+
+fn print(bytes: &[u8]) -> Result<(), String> {
+    io::stdout().write_all(bytes).map_err(|e| e.to_string())
 }
 
 fn number(words: &[String], place: usize, otherwise: u64) -> Result<u64, String> {
@@ -46,7 +62,30 @@ fn run_screen(words: &[String]) -> Result<(), String> {
     let [reason, reply, detail, missing, length] = verdict.numbers();
     let mut text = format!("{reason} {reply} {detail} {missing}\n").into_bytes();
     text.extend(&buffer[..length as usize]);
-    io::stdout().write_all(&text).map_err(|e| e.to_string())
+    print(&text)
+}
+
+/// The fixed records, or with a seed drawn ones among them.
+fn run_history(words: &[String]) -> Result<(), String> {
+    if words.is_empty() {
+        return print(&history::fixed_file());
+    }
+    let count = number(words, 1, history::DRAWN as u64)?;
+    print(&history::drawn_file(number(words, 0, 0)?, count as usize))
+}
+
+/// The folder is made where it is not there.
+fn run_worked(folder: &Path) -> Result<(), String> {
+    let write = |name: String, bytes: &[u8]| {
+        let path = folder.join(name);
+        fs::write(&path, bytes).map_err(|e| format!("{}: {e}", path.display()))
+    };
+    fs::create_dir_all(folder).map_err(|e| format!("{}: {e}", folder.display()))?;
+    for worked in worked::texts() {
+        write(format!("{}.records", worked.number()), &worked.text())?;
+        write(format!("{}.report", worked.number()), worked.report.as_bytes())?;
+    }
+    Ok(())
 }
 
 fn run_cases() -> Result<(), String> {

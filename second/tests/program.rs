@@ -1,6 +1,8 @@
-//! The program: `screen [side] [room]` and `cases`.
+//! The program: `screen [side] [room]`, `cases`, `replay`, `history [SEED [COUNT]]` and `worked DIR`.
 mod common;
 use common::*;
+use second::recorded::{history, worked};
+use std::fs;
 use std::io::Write;
 use std::process::{Command, Stdio};
 
@@ -64,6 +66,42 @@ fn cases_prints_a_line_for_each() {
     // A file that is cut short says so after the whole cases.
     assert_eq!(program(&["cases"], &file[..file.len() - 1]).0, Some(2));
     assert_eq!(program(&["cases"], &[1, 0, 0, 0]).0, Some(2));
+}
+
+#[test]
+fn replay_prints_the_report() {
+    let wanted = |lines: &str| (Some(0), lines.as_bytes().to_vec());
+    let record = [&[0x53, 0x4E, 1, 0x01, 0x70], &call()[..]].concat();
+    assert_eq!(program(&["replay"], &record), wanted("relay 1 1 0\nother 0 0 0\nunread 0 0 0\nend 1 0\n"));
+    assert_eq!(program(&["replay"], b""), wanted("relay 0 0 0\nother 0 0 0\nunread 0 0 0\nend 0 0\n"));
+    assert_eq!(program(&["replay"], &[0x53]), wanted("relay 0 0 0\nother 0 0 0\nunread 0 0 0\nend 0 32\n"));
+    assert_eq!(program(&["replay"], &[record, vec![0]].concat()), wanted("relay 1 1 0\nother 0 0 0\nunread 0 0 0\nend 1 31\n"));
+}
+
+#[test]
+fn history_writes_records() {
+    assert_eq!(program(&["history"], b""), (Some(0), history::fixed_file()));
+    assert!(program(&["history", "3"], b"") == (Some(0), history::drawn_file(3, 2000)));
+    assert!(program(&["history", "3", "10"], b"") == (Some(0), history::drawn_file(3, 10)));
+    assert_eq!(program(&["history", "x"], b"").0, Some(2));
+    assert_eq!(program(&["history", "1", "-1"], b"").0, Some(2));
+}
+
+#[test]
+fn worked_writes_texts_and_reports() {
+    let folder = format!("{}/worked", env!("CARGO_TARGET_TMPDIR"));
+    assert_eq!(program(&["worked", &folder], b""), (Some(0), Vec::new()));
+    for worked in worked::texts() {
+        let read = |kind: &str| fs::read(format!("{folder}/{}.{kind}", worked.number())).unwrap();
+        assert!(read("records") == worked.text(), "{}", worked.name);
+        assert!(read("report") == worked.report.as_bytes(), "{}", worked.name);
+    }
+    assert_eq!(fs::read_dir(&folder).unwrap().count(), 2 * 111);
+    fs::remove_dir_all(&folder).unwrap();
+    assert_eq!(program(&["worked"], b"").0, Some(2));
+    assert_eq!(program(&["worked", &folder, "more"], b"").0, Some(2));
+    // No folder can be made inside a file.
+    assert_eq!(program(&["worked", concat!(env!("CARGO_MANIFEST_DIR"), "/Cargo.toml/worked")], b"").0, Some(2));
 }
 
 #[test]

@@ -1,4 +1,4 @@
-//! The recorded cases reach what they are for, and the stored files are what `second record` and `second cases` write today.
+//! The recorded cases reach what they are for, and the stored files of cases and of records are what `second` writes today.
 use second::recorded::{cases, file, Case, MOST, ROOM};
 use second::start::Start;
 use second::profile::{self, Column};
@@ -127,22 +127,28 @@ fn the_file_is_the_same_each_time() {
     assert_eq!(file(), file());
 }
 
-#[test]
-fn stored_files_are_up_to_date() {
-    let folder = Path::new(env!("CARGO_MANIFEST_DIR")).join("../crates/vectors");
+/// What is stored for the program of a crate is what these words of `second` write and answer today.
+fn stored_files_are_up_to_date(name: &str, writes: &str, answers: &str) {
+    let folder = Path::new(env!("CARGO_MANIFEST_DIR")).join("../crates").join(name);
     let (stdin, stdout) = (folder.join("stdin"), folder.join("stdout"));
     if !stdin.exists() && !stdout.exists() {
-        eprintln!("skipped: crates/vectors/stdin and stdout are absent; second/regenerate writes them");
+        eprintln!("skipped: crates/{name}/stdin and stdout are absent; second/regenerate writes them");
         return;
     }
-    let stored = std::fs::read(&stdin).expect("crates/vectors/stdin");
-    assert!(stored == file(), "crates/vectors/stdin differs from `second record`: run second/regenerate");
-    let input = std::fs::File::open(&stdin).expect("crates/vectors/stdin");
-    let lines = Command::new(env!("CARGO_BIN_EXE_second"))
-        .arg("cases")
-        .stdin(Stdio::from(input))
-        .output()
-        .expect("second cases");
-    let stored = std::fs::read(&stdout).expect("crates/vectors/stdout");
-    assert!(lines.stdout == stored, "crates/vectors/stdout differs from `second cases`: run second/regenerate");
+    let second = |word: &str, input: Stdio| Command::new(env!("CARGO_BIN_EXE_second")).arg(word).stdin(input).output().expect("second").stdout;
+    let stored = std::fs::read(&stdin).expect("stdin");
+    assert!(stored == second(writes, Stdio::null()), "crates/{name}/stdin differs from `second {writes}`: run second/regenerate");
+    let input = std::fs::File::open(&stdin).expect("stdin");
+    let stored = std::fs::read(&stdout).expect("stdout");
+    assert!(stored == second(answers, Stdio::from(input)), "crates/{name}/stdout differs from `second {answers}`: run second/regenerate");
+}
+
+#[test]
+fn stored_cases_are_up_to_date() {
+    stored_files_are_up_to_date("vectors", "record", "cases");
+}
+
+#[test]
+fn stored_records_are_up_to_date() {
+    stored_files_are_up_to_date("replay", "history", "replay");
 }

@@ -186,6 +186,75 @@ static void try_calling_number(const struct message *m)
     }
 }
 
+/* What was counted so far. */
+static uint32_t counts[60];
+static uint64_t taken, ended;
+
+static void try_take_record(const struct message *m)
+{
+    static const uint64_t sides[] = { 1, 0, 2 }, before[] = { 0, 1000000 };
+    size_t i, j;
+
+    for (i = 0; i < sizeof sides / sizeof sides[0]; i++)
+        for (j = 0; j < sizeof before / sizeof before[0]; j++) {
+            struct call call = { mishkolar_take_record, { NUMBER(counts), NUMBER(&taken), NUMBER(&ended), sides[i], NUMBER(m->bytes), m->len } };
+            DOING("%s, side %d, after %d records", m->name, (int)sides[i], (int)before[j]);
+            taken = before[j];
+            ended = 0;
+            try(&call);
+        }
+}
+
+#define LONGEST 65535
+
+static uint8_t text[2 * (5 + LONGEST)];
+
+/* Puts the message as a record at a place of the text, as much of it as a record can have; past it. */
+static size_t put_record(size_t at, uint8_t side, const struct message *m)
+{
+    size_t len = m->len < LONGEST ? m->len : LONGEST;
+    const uint8_t head[] = { 0x53, 0x4e, side, (uint8_t)(len >> 8), (uint8_t)len };
+
+    memcpy(text + at, head, sizeof head);
+    memcpy(text + at + sizeof head, m->bytes, len);
+    return at + sizeof head + len;
+}
+
+static void try_replay(const struct message *m)
+{
+    size_t one = put_record(0, 1, m), two = put_record(one, 0, m), i;
+    const struct {
+        const char *name;
+        const uint8_t *bytes;
+        size_t len;
+    } texts[] = { { "two records", text, two }, { "the second cut short", text, two - 1 }, { "a bad mark", text + 1, two - 1 }, { "no record", m->bytes, m->len } };
+
+    for (i = 0; i < sizeof texts / sizeof texts[0]; i++) {
+        struct call call = { mishkolar_replay, { NUMBER(texts[i].bytes), texts[i].len, NUMBER(counts), NUMBER(&taken), NUMBER(&ended) } };
+        DOING("%s, %s", m->name, texts[i].name);
+        try(&call);
+    }
+}
+
+static void try_report(const struct message *m)
+{
+    static const uint32_t each[] = { 0, 1, 65536, UINT32_MAX };
+    size_t i, j;
+
+    (void)m;
+    for (i = 0; i < sizeof each / sizeof each[0]; i++) {
+        for (j = 0; j < sizeof counts / sizeof counts[0]; j++)
+            counts[j] = each[i];
+        size_t need = mishkolar_report(counts, UINT64_MAX, 33, out, ROOM);
+        size_t rooms[] = { ROOM, 4096, need, need == 0 ? 0 : need - 1, 0 };
+        for (j = 0; j < sizeof rooms / sizeof rooms[0]; j++) {
+            struct call call = { mishkolar_report, { NUMBER(counts), UINT64_MAX, 33, NUMBER(out), rooms[j] } };
+            DOING("each count %llu, room %zu", (unsigned long long)each[i], rooms[j]);
+            try(&call);
+        }
+    }
+}
+
 static void try_causes(const void *function)
 {
     uint64_t number;
@@ -209,7 +278,7 @@ static void try_cause_of_status(const struct message *m)
     try_causes(mishkolar_cause_of_status);
 }
 
-/* Every function of the header; those of causes take no message. */
+/* Every function of the header; the report and those of causes take no message. */
 static const struct {
     const char *name;
     void (*try)(const struct message *m);
@@ -219,6 +288,9 @@ static const struct {
     { "mishkolar_count", try_count, 1 },
     { "mishkolar_reading", try_reading, 1 },
     { "mishkolar_calling_number", try_calling_number, 1 },
+    { "mishkolar_take_record", try_take_record, 1 },
+    { "mishkolar_replay", try_replay, 1 },
+    { "mishkolar_report", try_report, 0 },
     { "mishkolar_status_of_cause", try_status_of_cause, 0 },
     { "mishkolar_cause_of_status", try_cause_of_status, 0 },
 };

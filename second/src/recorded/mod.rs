@@ -5,6 +5,7 @@
 
 mod columns;
 mod edges;
+pub mod history;
 mod outside;
 mod outside_responses;
 mod privacy;
@@ -12,6 +13,7 @@ mod responses;
 pub mod reviewed;
 mod sizes;
 mod strewn;
+pub mod worked;
 
 /// The room of the page's screening program, and the most that a case has.
 pub const ROOM: u16 = 9216;

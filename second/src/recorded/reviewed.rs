@@ -57,7 +57,7 @@ fn five(numbers: &str) -> [u64; 5] {
 }
 
 /// The bytes that a line stands for.
-fn bytes(text: &str) -> Vec<u8> {
+pub(super) fn bytes(text: &str) -> Vec<u8> {
     let mut out = Vec::new();
     let mut rest = text.bytes();
     while let Some(byte) = rest.next() {

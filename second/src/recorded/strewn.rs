@@ -55,6 +55,9 @@ fn extra(dice: &mut Dice) -> Whole {
 
 pub fn damage(dice: &mut Dice, message: &mut Vec<u8>) {
     for _ in 0..1 + dice.below(3) {
+        if message.is_empty() {
+            return;
+        }
         let place = dice.below(message.len());
         match dice.below(4) {
             0 => message[place] = dice.number() as u8,

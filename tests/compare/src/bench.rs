@@ -4,6 +4,7 @@ use crate::counts::{Call, Counts, Kind, Met};
 use crate::differences::{escaped, same, same_bytes, within};
 use crate::guarded::{Against, Guarded};
 use crate::privacy::Asked;
+use crate::replay::Replay;
 use crate::watch::NOW;
 use crate::{library, messages};
 use second::drafts::{Dice, Draft};
@@ -22,6 +23,7 @@ pub struct Bench {
     message: Guarded,
     trunk: Guarded,
     out: Guarded,
+    replay: Replay,
     pub counts: Counts,
 }
 
@@ -36,7 +38,8 @@ struct Lent {
 
 impl Bench {
     pub fn new() -> Bench {
-        Bench { message: Guarded::new(MOST_MESSAGE), trunk: Guarded::new(MOST_TRUNK), out: Guarded::new(MOST_ROOM), counts: Counts::new() }
+        let [message, trunk, out] = [MOST_MESSAGE, MOST_TRUNK, MOST_ROOM].map(Guarded::new);
+        Bench { message, trunk, out, replay: Replay::new(), counts: Counts::new() }
     }
 
     /// All that is not drawn.
@@ -51,6 +54,7 @@ impl Bench {
             self.odd_bytes(&plain);
         }
         self.odd_phrases();
+        self.replay.fixed(&mut self.counts);
     }
 
     /// One number as a cause and as a status.
@@ -115,6 +119,7 @@ impl Bench {
         }
         self.readings(dice, &message, lent.against);
         self.calling(dice, &message, lent.against);
+        self.replay.one(&mut self.counts, dice, &message, lent.side, lent.against);
         let number = if dice.one_in(10) { dice.number() } else { dice.below(800) as u64 };
         self.causes(number);
     }

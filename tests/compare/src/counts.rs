@@ -42,6 +42,9 @@ counted!(Call, CALLS:
     Count = "count",
     Reading = "reading",
     CallingNumber = "calling_number",
+    TakeRecord = "take_record",
+    Replay = "replay",
+    Report = "report",
     StatusOfCause = "status_of_cause",
     CauseOfStatus = "cause_of_status",
     ChangedRequest = "screen, names and extra fields of a request changed",
@@ -73,6 +76,21 @@ counted!(Met, METS:
     TrunkOfResponse = "trunk number of a response that has an identity",
     EndsInName = "ends in a name or behind it",
     LongPhrase = "accepted response with a phrase of over 2,000 bytes",
+    TakenRelay = "take_record: of a relay caller, accepted",
+    TakenRelayRefused = "take_record: of a relay caller, refused",
+    TakenNear = "take_record: not of one, although X-Relay-Mod stands in it",
+    TakenUnread = "take_record: not read, although X-Relay-Mode stands in it",
+    TakenFull = "take_record: its count is 4,294,967,295 and stays",
+    TakenOver = "take_record: 1,000,000 or more were read before",
+    TakenEnded = "take_record: the text had ended before",
+    EndedWith0 = "text of records that ended with 0",
+    EndedWith31 = "text of records that ended with 31",
+    EndedWith32 = "text of records that ended with 32",
+    EndedWith33 = "text of records that ended with 33",
+    Read = "records read from texts of fewer than a million",
+    ReadRelay = "the same, in the line relay",
+    ReadOther = "the same, in the line other",
+    ReadUnread = "the same, in the line unread",
 );
 
 pub struct Counts {
@@ -92,7 +110,11 @@ impl Counts {
     }
 
     pub fn met(&mut self, met: Met, really: bool) {
-        self.mets[met as usize] += u64::from(really);
+        self.met_often(met, u64::from(really));
+    }
+
+    pub fn met_often(&mut self, met: Met, times: u64) {
+        self.mets[met as usize] += times;
     }
 
     /// A drawn message and its reason.

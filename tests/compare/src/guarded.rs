@@ -48,6 +48,13 @@ impl Guarded {
         unsafe { std::slice::from_raw_parts_mut(self.start.add(offset), length) }
     }
 
+    /// So many numbers directly against a forbidden page.
+    pub fn numbers(&mut self, length: usize, against: Against) -> &mut [u32] {
+        let bytes = self.part(length * 4, against);
+        // SAFETY: the same bytes; pages and the size of their numbers keep them aligned.
+        unsafe { std::slice::from_raw_parts_mut(bytes.as_mut_ptr() as *mut u32, length) }
+    }
+
     /// A copy of the bytes directly against a forbidden page.
     pub fn copy(&mut self, bytes: &[u8], against: Against) -> &mut [u8] {
         let part = self.part(bytes.len(), against);

@@ -11,6 +11,9 @@ mod c {
         pub fn mishkolar_calling_number(
             message: *const u8, len: usize, trunk: *const u8, trunk_len: usize, start: *mut usize, from_trunk: *mut u64,
         ) -> usize;
+        pub fn mishkolar_take_record(counts: *mut u32, read: *mut u64, end: *mut u64, side: u64, message: *const u8, len: usize);
+        pub fn mishkolar_replay(text: *const u8, len: usize, counts: *mut u32, read: *mut u64, end: *mut u64);
+        pub fn mishkolar_report(counts: *const u32, read: u64, end: u64, out: *mut u8, room: usize) -> usize;
         pub fn mishkolar_status_of_cause(cause: u64, refusal: *mut u64) -> u64;
         pub fn mishkolar_cause_of_status(status: u64, refusal: *mut u64) -> u64;
     }
@@ -53,6 +56,34 @@ pub fn calling_number(message: &[u8], trunk: &[u8]) -> (u64, usize, usize) {
     (from_trunk, start, length)
 }
 
+/// How many numbers `take_record`, `replay` and `report` are lent as counts.
+pub const COUNTS: usize = 60;
+
+/// The records read and the end, which stood as given before.
+pub fn take_record(counts: &mut [u32], read: u64, end: u64, side: u64, message: &[u8]) -> (u64, u64) {
+    assert_eq!(counts.len(), COUNTS);
+    let (mut read, mut end) = (read, end);
+    // SAFETY: as above, and so many counts.
+    unsafe { c::mishkolar_take_record(counts.as_mut_ptr(), &mut read, &mut end, side, message.as_ptr(), message.len()) };
+    (read, end)
+}
+
+/// The records read and the end.
+pub fn replay(text: &[u8], counts: &mut [u32]) -> (u64, u64) {
+    assert_eq!(counts.len(), COUNTS);
+    let (mut read, mut end) = (BEFORE, BEFORE);
+    // SAFETY: as above, and so many counts.
+    unsafe { c::mishkolar_replay(text.as_ptr(), text.len(), counts.as_mut_ptr(), &mut read, &mut end) };
+    (read, end)
+}
+
+/// The length.
+pub fn report(counts: &[u32], read: u64, end: u64, out: &mut [u8]) -> usize {
+    assert_eq!(counts.len(), COUNTS);
+    // SAFETY: as above, and so many counts.
+    unsafe { c::mishkolar_report(counts.as_ptr(), read, end, out.as_mut_ptr(), out.len()) }
+}
+
 pub fn status_of_cause(cause: u64) -> (u64, u64) {
     let mut refusal = BEFORE;
     // SAFETY: one number is written.
@@ -80,6 +111,12 @@ pub fn with_null_pointers() -> [u64; 5] {
         let mut from_trunk = 1;
         start = 1;
         assert_eq!((c::mishkolar_calling_number(none, 0, none, 0, &mut start, &mut from_trunk), start, from_trunk), (0, 0, 0));
+        let (mut counts, mut read, mut end) = ([7; COUNTS], BEFORE, BEFORE);
+        c::mishkolar_replay(none, 0, counts.as_mut_ptr(), &mut read, &mut end);
+        assert_eq!((counts, read, end), ([0; COUNTS], 0, 0));
+        c::mishkolar_take_record(counts.as_mut_ptr(), &mut read, &mut end, 1, none, 0);
+        assert_eq!((counts[43], counts.iter().sum(), read, end), (1, 1, 1, 0));
+        assert_eq!(c::mishkolar_report(counts.as_ptr(), read, end, nowhere, 0), 0);
         c::mishkolar_screen(none, 0, 1, nowhere, 0, reason, reply, detail, missing)
     };
     [n[0], n[1], n[2], n[3], length as u64]

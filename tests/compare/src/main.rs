@@ -8,6 +8,8 @@ mod library;
 mod messages;
 mod privacy;
 mod progress;
+mod replay;
+mod tally;
 mod watch;
 
 use bench::Bench;

@@ -6,6 +6,8 @@ mod damage;
 mod faults;
 mod folds;
 mod odd;
+mod relay;
+pub mod texts;
 mod values;
 
 pub use change::changed;
@@ -25,6 +27,9 @@ pub fn draft(dice: &mut Dice) -> Draft {
     all_fields(dice, &mut draft, column);
     body(dice, &mut draft);
     identities(dice, &mut draft, column);
+    if dice.one_in(3) {
+        relay::strew(dice, &mut draft);
+    }
     for _ in 0..if dice.one_in(2) { 1 + dice.below(2) } else { 0 } {
         if REQUESTS.contains(&column) {
             faults::of_request(dice, &mut draft, column);
