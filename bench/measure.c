@@ -7,6 +7,7 @@
  *   calling     the proved library's calling number
  *   count       its count of Via
  *   reading     its reading of the first Via
+ *   record      its counting of the message as one record
  * Buffers are not cleared between the calls. Every call is done once before it is measured.
  *
  * use: measure count FILE...    one call of a measured_ function for each printed line, with a dump by callgrind that has its number
@@ -111,6 +112,15 @@ __attribute__((noinline)) size_t measured_reading(void)
     return mishkolar_reading(message, len, VIA_NUMBER, 1, &start);
 }
 
+__attribute__((noinline)) size_t measured_record(void)
+{
+    static uint32_t counts[60];
+    /* From 0 at each call, since nothing is counted after a million. */
+    uint64_t read = 0, end = 0;
+    mishkolar_take_record(counts, &read, &end, SIDE, message, len);
+    return (size_t)read;
+}
+
 static const struct {
     const char *name;
     size_t (*call)(void);
@@ -122,6 +132,7 @@ static const struct {
     { "calling", measured_calling },
     { "count", measured_count },
     { "reading", measured_reading },
+    { "record", measured_record },
 };
 
 static double nanoseconds(void)

@@ -1,13 +1,14 @@
 #!/usr/bin/env python3
-"""Writes the benchmark's result: report.py MESSAGES COUNTS DUMPS TIMES DOCS
+"""Writes the benchmark's result: report.py WORK DOCS
 
-MESSAGES is the folder of messages, COUNTS what `measure count` printed, DUMPS the front of callgrind's dump files, TIMES what `measure
-time` printed, DOCS the folder of PERFORMANCE.md and performance.svg. The tables stand between the two marker lines of PERFORMANCE.md;
-the rest of that file stays as it is.
+WORK is the folder of what was measured: messages; counts and times, as `measure` printed them; dump.N, callgrind's dumps for the counts; of
+the program replay records-COUNT, its memory-COUNT in kB, its dump-replay and microseconds, one line for each run. DOCS is the folder of
+PERFORMANCE.md and performance.svg. The tables stand between the two marker lines of PERFORMANCE.md; the rest of that file stays as it is.
 """
 import math
 import os
 import platform
+import statistics
 import subprocess
 import sys
 
@@ -29,6 +30,9 @@ CALLS = ["call", "call-200", "call-180", "invite", "invite-200", "refused-3", "r
 # Tasks of the library alone, and those that judge: a refusal is their answer.
 ALONE = ["calling", "count", "reading"]
 JUDGES = ["mishkolar", "second"]
+# The most that one record of the call may take, in screenings of it.
+MOST_FOR_A_RECORD = 1.5
+FEW, MANY = 1000, 100000
 LENGTHS = [1000, 2000, 3000, 4000, 6000, 8192]
 
 
@@ -48,15 +52,15 @@ def instructions(dump):
     sys.exit(f"{dump} has no summary")
 
 
-def read(counts, dumps, times):
+def read(work):
     """Instructions and nanoseconds by message and task; None where the message is not taken, unless it is meant to be refused."""
     result = {}
-    for file, key in ((counts, "instructions"), (times, "nanoseconds")):
-        with open(file) as f:
+    for file, key in (("counts", "instructions"), ("times", "nanoseconds")):
+        with open(os.path.join(work, file)) as f:
             for line in f:
                 path, name, taken, number = line.split()
                 message = os.path.basename(path)
-                number = instructions(f"{dumps}.{number}") if key == "instructions" else int(number)
+                number = instructions(os.path.join(work, f"dump.{number}")) if key == "instructions" else int(number)
                 answered = taken == "1" or (message.startswith("refused-") and name in JUDGES)
                 result[(message, name, key)] = number if answered else None
     return result
@@ -102,6 +106,39 @@ def table(result, folder, key):
     return lines + ["| " + " | ".join(cells) + " |" for cells in rows]
 
 
+def numbers(work, file):
+    with open(os.path.join(work, file)) as f:
+        return [int(line) for line in f]
+
+
+def table_of_records(result, folder):
+    lines = [
+        "| Message | Bytes | Screening | One record | record / screening | Screening, ns | One record, ns |",
+        "|---|--:|" + "--:|" * 5,
+    ]
+    for message in CALLS + ["empty"] + [f"{shape}-{LENGTHS[-1]}" for shape in SHAPES]:
+        size = os.path.getsize(os.path.join(folder, message))
+        cells = [words(message), f"{size:,}"] + [number(result[(message, task, "instructions")]) for task in ("mishkolar", "record")]
+        cells.append(ratio(result, message, "record", "instructions"))
+        cells += [number(result[(message, task, "nanoseconds")]) for task in ("mishkolar", "record")]
+        lines.append("| " + " | ".join(cells) + " |")
+    return lines
+
+
+def table_of_program(work):
+    sizes = [os.path.getsize(os.path.join(work, f"records-{count}")) for count in (FEW, MANY)]
+    memory = [numbers(work, f"memory-{count}")[0] for count in (FEW, MANY)]
+    second = MANY * 1e6 / statistics.median(numbers(work, "microseconds"))
+    return [
+        f"| The program `replay` | {FEW:,} records | {MANY:,} records |",
+        "|---|--:|--:|",
+        f"| bytes of the file | {sizes[0]:,} | {sizes[1]:,} |",
+        f"| instructions a record, the whole run counted by callgrind | | {instructions(os.path.join(work, 'dump-replay')) / MANY:,.0f} |",
+        f"| records a second, by the median of 15 runs from the file | | {second:,.0f} |",
+        f"| the most memory held, kB | {memory[0]:,} | {memory[1]:,} |",
+    ]
+
+
 def package(name):
     return said("dpkg-query", "-W", "-f", "${Version}", name)
 
@@ -121,12 +158,17 @@ def machine():
     ]
 
 
-def document(result, folder):
+def document(result, work):
+    folder = os.path.join(work, "messages")
     lines = [""] + machine()
     lines += ["", "Instructions of one screening (or one parsing and writing, or the function named), counted by callgrind inside the measured function:", ""]
     lines += table(result, folder, "instructions")
     lines += ["", "Nanoseconds, the median of 201 batches of at least 50 microseconds each:", ""]
     lines += table(result, folder, "nanoseconds")
+    lines += ["", "One record counted by the library, beside the screening of the same message, in instructions and in nanoseconds as above:", ""]
+    lines += table_of_records(result, folder)
+    lines += ["", "The program `replay` on mixed records of these messages:", ""]
+    lines += table_of_program(work)
     return lines + [""]
 
 
@@ -221,12 +263,14 @@ def plot(result, path):
 
 
 def main():
-    if len(sys.argv) != 6:
+    if len(sys.argv) != 3:
         sys.exit(__doc__)
-    folder, counts, dumps, times, docs = sys.argv[1:]
-    result = read(counts, dumps, times)
-    put_between_markers(os.path.join(docs, "PERFORMANCE.md"), document(result, folder))
+    work, docs = sys.argv[1:]
+    result = read(work)
+    put_between_markers(os.path.join(docs, "PERFORMANCE.md"), document(result, work))
     plot(result, os.path.join(docs, "performance.svg"))
+    if result[("call", "record", "instructions")] > MOST_FOR_A_RECORD * result[("call", "mishkolar", "instructions")]:
+        sys.exit(f"one record of the call takes more than {MOST_FOR_A_RECORD} times the instructions of its screening")
 
 
 main()

@@ -9,11 +9,17 @@ is 0. Only what has come through goes on to the sipp behind it.
 Who is hidden is also judged here, from the pages and not by `second`, so that a rule that both have wrong is found. An INVITE out to side 1
 whose Privacy holds `header`, `user` or `id` has an anonymous From and no P-Asserted-Identity; every other INVITE has both as they came.
 
-use: watch.py SIDE FIRST_PORT FORWARDER SECOND [CASES]
+The regulator's quarter is counted here too: what came through is accepted, all else refused, and this script itself reads the lines of each
+message, and so says whether it is unread (with its reason, 2 to 5), a relay caller's or another's; the reasons from 6 on are those that
+`second` and the forwarder have told. At the end the forwarder's live report must be the report of that count, and what it recorded must
+be the messages as they were sent to it, with their sides, in every byte.
+
+use: watch.py SIDE FIRST_PORT FORWARDER SECOND RECORDS REPORT [CASES]
 
 SIDE is the called one's, the caller has the other. The five ports from FIRST_PORT on are those of the calling sipp, the near end, the
-forwarder, the far end and the called sipp. CASES is a file of recorded cases (crates/vectors/stdin): each 40th is sent too, after the
-sipps have finished. Ends at SIGTERM with a summary; exit status 0 where all was as prescribed, and all was seen that must be.
+forwarder, the far end and the called sipp. RECORDS is where the forwarder records, REPORT where its live report is written to. CASES is a
+file of recorded cases (crates/vectors/stdin): each 40th is sent too, after the sipps have finished. Ends at SIGTERM with a summary; exit
+status 0 where all was as prescribed, and all was seen that must be.
 """
 import collections
 import re
@@ -37,15 +43,6 @@ REPLIES = [400, 405, 416, 420, 483, 484]
 DROPPED = {"200": [(3, 0, 0, 0), (6, 0, 0, 0), (11, 0, 0, 0), (12, 0, 7, 1)], "700": [(17, 0, 0, 0)], "ACK": [(12, 0, 2, 1)]}
 
 
-class Finished(Exception):
-    pass
-
-
-def finish(_number, _frame):
-    signal.signal(signal.SIGTERM, signal.SIG_IGN)
-    raise Finished()
-
-
 class End:
     """One of the forwarder's two peers: its side, its socket, and the sipp behind it."""
 
@@ -57,19 +54,23 @@ class End:
 
 
 class Watch:
-    def __init__(self, side, first, forwarder, second):
+    def __init__(self, side, first, forwarder, second, records):
         self.near, self.far = End(1 - side, first + 1, first), End(side, first + 3, first + 4)
         self.address = (HOST, first + 2)
         ports = [str(end.port) for end in sorted((self.near, self.far), key=lambda end: end.side)]
-        self.forwarder = subprocess.Popen([forwarder, str(first + 2)] + ports, stdout=subprocess.PIPE, bufsize=0)
+        words = [forwarder, str(first + 2)] + ports + [records]
+        self.forwarder = subprocess.Popen(words, stdin=subprocess.PIPE, stdout=subprocess.PIPE, bufsize=0)
         if self.forwarder.stdout.readline() != b"ready\n":
             sys.exit("the forwarder did not start")
-        self.second = second
+        self.second, self.records = second, records
         self.waiting = collections.deque()    # what came from a sipp while another message was under way
         self.live = collections.Counter()
         self.recorded = collections.Counter()
         self.shown = collections.Counter()
+        self.counted = collections.Counter()    # by line of the report and reason, 0 for accepted
+        self.sent = []                          # records of all that was sent to the forwarder
         self.faults = 0
+        self.finished = False
 
     def fault(self, what, message, wanted, got):
         self.faults += 1
@@ -118,13 +119,44 @@ class Watch:
         back = self.received(sender, PATIENCE if reply != 0 else 0)
         if (back or b"").split(b" ")[:2] != ([b"SIP/2.0", b"%d" % reply] if reply != 0 else [b""]):
             self.fault("the answer differs", message, reply, back)
+        self.count(message, receiver.side, 0 if onward is not None else reason)
         return numbers, onward, back
+
+    def count(self, message, side, reason):
+        line, unread, _ = report_line(message)
+        self.counted[(line, unread or reason)] += 1
+        self.sent.append(b"SN" + bytes([side]) + len(message).to_bytes(2, "big") + message)
+
+    def report(self):
+        """The report of what was counted here."""
+        lines = []
+        for line in LINES:
+            reasons = {reason: count for (found, reason), count in sorted(self.counted.items()) if found == line}
+            came, accepted = sum(reasons.values()), reasons.pop(0, 0)
+            rate = (came - accepted) * 10000 // came if came else 0
+            lines.append(" ".join([f"{line} {came} {accepted} {rate}"] + [f"{reason}={count}" for reason, count in reasons.items()]))
+        return "".join(text + "\n" for text in lines + [f"end {len(self.sent)} 0"]).encode()
+
+    def end(self, report):
+        """Ends the forwarder, and holds its report and its records to what was counted and sent here."""
+        self.forwarder.stdin.close()
+        said = self.forwarder.stdout.read()
+        self.forwarder.wait()
+        with open(report, "wb") as f:
+            f.write(said)
+        if said != self.report():
+            self.fault("the live report differs", b"", self.report(), said)
+        with open(self.records, "rb") as f:
+            records = f.read()
+        if records != b"".join(self.sent):
+            self.fault(f"{self.records} has not the messages as they were sent", b"", len(b"".join(self.sent)), len(records))
 
     def handle(self, message, sender):
         receiver = self.far if sender is self.near else self.near
         numbers, onward, back = self.screened(message, sender)
         what = kind(message, numbers, onward)
         self.live[(what, numbers)] += 1
+        self.shown[counted_line(message, onward)] += 1
         if onward is not None:
             self.shown.update(shown(what, message, onward))
             receiver.socket.sendto(onward, receiver.sipp)
@@ -138,16 +170,20 @@ class Watch:
             if unasked is not None:
                 self.fault("the forwarder sent something that nobody waited for", b"", None, unasked)
 
+    def finish(self, _number, _frame):
+        self.finished = True
+
     def serve(self):
-        while True:
+        """Up to the signal. A message that is under way is handled to its end, since the forwarder counts it too."""
+        while not self.finished:
             if self.waiting:
                 self.handle(*self.waiting.popleft())
                 continue
             self.nothing_more()
             if not self.waiting:
-                select.select([self.near.socket, self.far.socket], [], [])
+                select.select([self.near.socket, self.far.socket], [], [], 0.2)
 
-    def replay(self, file):
+    def send_cases(self, file):
         """Each 40th recorded case with the forwarder's own room, towards its side."""
         place = number = 0
         with open(file, "rb") as f:
@@ -164,11 +200,11 @@ class Watch:
         self.nothing_more()
 
     def to_show(self):
-        """What accepted messages must have shown."""
+        """What messages must have shown, accepted ones but for the lines that say where one is counted."""
         outcomes = {asked: "hidden" if self.far.side == 1 else "as it came" for asked in WITHHELD}
         outcomes[OPEN] = "as it came"
         invites = [outcome_line(what, asked, outcomes[asked]) for what in ("INVITE", "INVITE (later)") for asked in outcomes]
-        return SHOWN + invites + [outcome_line(what, asked, "as it came") for what, asked in ELSEWHERE]
+        return SHOWN + COUNTED + invites + [outcome_line(what, asked, "as it came") for what, asked in ELSEWHERE]
 
     def lacking(self):
         """What must have been seen, and was not."""
@@ -191,6 +227,41 @@ class Watch:
         if lacking:
             print("never seen: " + "; ".join(lacking))
         return not self.faults and not lacking
+
+
+# The page's lines as patterns, so that what is counted here does not rest on `second`.
+TOKEN = rb"[A-Za-z0-9.!%*_+`'~-]"
+TEXT = rb"[\t -~\x80-\xff]"
+VERSION = rb"[Ss][Ii][Pp]/2\.0"
+START = re.compile(rb"(?:%b{1,32} [!-~]{1,256} %b|%b [0-9]{3} %b*)\r\n" % (TOKEN, VERSION, VERSION, TEXT))
+FIELD = re.compile(rb"(%b+)[ \t]*:(?:%b|\r\n(?=[ \t]))*\r\n(?![ \t])" % (TOKEN, TEXT))
+LINES = ["relay", "other", "unread"]    # of the report
+RELAY = b"x-relay-mode"
+
+
+def read_lines(message):
+    """The reason for which a message is not read, 2 to 5, or 0; and the names of its fields up to there."""
+    names = []
+    if len(message) > 8192:
+        return 2, names
+    found = START.match(message)
+    if not found:
+        return 3, names
+    place = found.end()
+    while not message.startswith(b"\r\n", place):
+        found = FIELD.match(message, place)
+        if not found:
+            return 4, names
+        names.append(found[1])
+        place = found.end()
+    return (5 if len(names) > 96 else 0), names
+
+
+def report_line(message):
+    """The line of the report in which a message to side 0 or 1 stands, the reason for which it is not read, and its names."""
+    reason, names = read_lines(message)
+    relay = any(name.lower() == RELAY for name in names)
+    return "unread" if reason else "relay" if relay else "other", reason, names
 
 
 def value(message, name):
@@ -261,6 +332,24 @@ OPEN = "none;identity"
 ELSEWHERE = [(what, asked) for what in ("ACK", "BYE") for asked in WITHHELD] + [("CANCEL", "id"), ("OPTIONS", "id")]
 
 
+# Where messages must have been counted, by how X-Relay-Mode stands in them.
+PLAIN, CASED, TWICE = "X-Relay-Mode", "X-Relay-Mode in other letters", "X-Relay-Mode twice"
+UNNAMED, NONE = "X-Relay-Mode, not read as a name", "no X-Relay-Mode"
+COUNTED = ["counted in relay, accepted: " + mode for mode in (PLAIN, CASED, TWICE)] + ["counted in relay, refused: " + PLAIN]
+COUNTED += ["counted in other, accepted: " + mode for mode in (UNNAMED, NONE)] + ["counted in other, refused: " + NONE]
+COUNTED += ["counted in unread, refused: " + mode for mode in (UNNAMED, NONE)]
+
+
+def counted_line(message, onward):
+    line, _, names = report_line(message)
+    spelt = [name for name in names if name.lower() == RELAY]
+    if spelt:
+        mode = TWICE if len(spelt) > 1 else PLAIN if spelt[0] == PLAIN.encode() else CASED
+    else:
+        mode = UNNAMED if RELAY in message.lower() else NONE
+    return f"counted in {line}, {'refused' if onward is None else 'accepted'}: {mode}"
+
+
 def outcome_line(what, asked, outcome):
     return f"{what} with Privacy: {asked}, the caller {outcome}"
 
@@ -287,16 +376,16 @@ def lost(message, outgoing, *names):
 
 
 def main():
-    if len(sys.argv) not in (5, 6):
+    if len(sys.argv) not in (7, 8):
         sys.exit(__doc__)
-    signal.signal(signal.SIGTERM, finish)
-    watch = Watch(int(sys.argv[1]), int(sys.argv[2]), sys.argv[3], sys.argv[4])
+    watch = Watch(int(sys.argv[1]), int(sys.argv[2]), *sys.argv[3:6])
+    signal.signal(signal.SIGTERM, watch.finish)
     print("ready", flush=True)
     try:
         watch.serve()
-    except Finished:
-        if len(sys.argv) == 6:
-            watch.replay(sys.argv[5])
+        if len(sys.argv) == 8:
+            watch.send_cases(sys.argv[7])
+        watch.end(sys.argv[6])
         sys.exit(0 if watch.summary() else 1)
     finally:
         watch.forwarder.terminate()
