@@ -107,8 +107,13 @@ void mishkolar_replay(const uint8_t *text, size_t len, uint32_t counts[60], uint
  */
 size_t mishkolar_report(const uint32_t counts[60], uint64_t read, uint64_t end, uint8_t *out, size_t room);
 
-/* The SIP status for a Q.850 cause value. Over 127: 0, and *refusal is 21; else *refusal is 0. */
-uint64_t mishkolar_status_of_cause(uint64_t cause, uint64_t *refusal);
+/*
+ * The SIP status for a Q.850 cause value, and in *row the cause whose row gave it: the cause itself where it is listed, else the class end
+ * next above it (31, 47, 63, 79, 95, 111 or 127). Up to 127 *refusal is 0, *row is 1 to 127 and the status 404 to 503. Over 127 *refusal is 21,
+ * and status and *row are 0. The listed causes have a star in the table that the program `cause_map` prints for an empty input
+ * (crates/cause_table/stdout).
+ */
+uint64_t mishkolar_status_of_cause(uint64_t cause, uint64_t *row, uint64_t *refusal);
 
 /* The Q.850 cause value for a SIP status. Outside 400 to 699: 0, and *refusal is 22; else *refusal is 0. */
 uint64_t mishkolar_cause_of_status(uint64_t status, uint64_t *refusal);

@@ -1,4 +1,4 @@
--- What the definitions give off the listed rows: a number that no row lists gets the other answer, and a cause is its own row exactly where its status is not 0.
+-- What the definitions give off the listed causes: a number that no entry lists gets the other answer, and a cause is its own row exactly where its status is not 0.
 use mathlib.Core.Path.{_≡_, refl}
 use mathlib.Core.Bool.{Bool, true, false, cond, _&&_, _||_, not}
 use mathlib.Core.List.{List, [], _∷_}
@@ -8,20 +8,20 @@ use native.Mathlib.Omega.{arith}
 use lib.Dec.{T, eqb, leb, ltb, leb→le, ltb→lt}
 use borrow.Author.Tests.{ne-eqb, le-ltb}
 use mir.Facts.{and-yes, or-yes}
-use Rattle.causes.specs.Causes.{Row, among, listed, given, statusRows, classEnds, nextAbove, rowOf, statusOf}
+use Rattle.causes.specs.Causes.{Entry, among, listed, given, statusEntries, classEnds, nextAbove, rowOf, statusOf}
 use Rattle.causes.proofs.Arms.{Missed, isKey, missed}
 
 -- each of the numbers is a key of the arms, or lies below n
-abbrev pub keysCovered : List Row → ℕ → List ℕ → Bool
+abbrev pub keysCovered : List Entry → ℕ → List ℕ → Bool
 keysCovered arms n [] = true
 keysCovered arms n (k ∷ ks) = (isKey arms k || ltb k n) && keysCovered arms n ks
 
-abbrev pub covered : List Row → ℕ → List Row → Bool
+abbrev pub covered : List Entry → ℕ → List Entry → Bool
 covered arms n [] = true
 covered arms n (r ∷ rs) = keysCovered arms n (r .keys) && covered arms n rs
 
-module _ (arms : List Row) (n : ℕ) {s : ℕ} (h : n ≤ s) (m : Missed (Unit {0}) arms s) where
-  not-among : (ks : List ℕ) → T (keysCovered arms n ks) → among ks s ≡ false
+module _ (arms : List Entry) (n : ℕ) {s : ℕ} (h : n ≤ s) (m : Missed (Unit {0}) arms s) where
+  pub not-among : (ks : List ℕ) → T (keysCovered arms n ks) → among ks s ≡ false
   unfolding among
   not-among [] t = refl
   not-among (k ∷ ks) t =
@@ -30,31 +30,31 @@ module _ (arms : List Row) (n : ℕ) {s : ℕ} (h : n ≤ s) (m : Missed (Unit {
       [ inl q ↦ missed (Unit {0}) arms s (rw e q) m | inr q ↦ omega (arith, ltb→lt k n q) ] in
       simp (ne-eqb s k other, not-among ks (both .1))
 
-  not-given : (other : ℕ) (rows : List Row) → T (covered arms n rows) → other ≡ given other rows s
+  not-given : (other : ℕ) (ls : List Entry) → T (covered arms n ls) → other ≡ given other ls s
   unfolding given
   not-given other [] t = refl
   not-given other (r ∷ rs) t =
       let both = and-yes (keysCovered arms n (r .keys)) (covered arms n rs) t in
       rw (not-among (r .keys) (both .0)) (not-given other rs (both .1))
 
--- no key of the arms, and not below n: no row lists it
-pub past : (other : ℕ) (rows arms : List Row) (n : ℕ) → T (covered arms n rows) → {s : ℕ} → n ≤ s → Missed (Unit {0}) arms s → other ≡ given other rows s
-past other rows arms n t h m = not-given arms n h m other rows t
+-- no key of the arms, and not below n: no entry lists it
+pub past : (other : ℕ) (ls arms : List Entry) (n : ℕ) → T (covered arms n ls) → {s : ℕ} → n ≤ s → Missed (Unit {0}) arms s → other ≡ given other ls s
+past other ls arms n t h m = not-given arms n h m other ls t
 
-abbrev upTo : ℕ → List ℕ → Bool
-upTo n [] = true
-upTo n (e ∷ es) = leb e n && upTo n es
+abbrev endsUpTo : ℕ → List ℕ → Bool
+endsUpTo n [] = true
+endsUpTo n (e ∷ es) = leb e n && endsUpTo n es
 
 -- no class ends above the last
-pub none-above : (es : List ℕ) (n : ℕ) → T (upTo n es) → {s : ℕ} → n ≤ s → 0 ≡ nextAbove es s
+pub none-above : (es : List ℕ) (n : ℕ) → T (endsUpTo n es) → {s : ℕ} → n ≤ s → 0 ≡ nextAbove es s
 unfolding nextAbove
 none-above [] n t h = refl
 none-above (e ∷ es) n t {s} h =
-    let both = and-yes (leb e n) (upTo n es) t in
+    let both = and-yes (leb e n) (endsUpTo n es) t in
     rw (le-ltb s e (omega (arith, leb→le e n (both .0)))) (none-above es n (both .1) h)
 
--- each row gives more than 0
-abbrev positive : List Row → Bool
+-- each entry gives more than 0
+abbrev positive : List Entry → Bool
 positive [] = true
 positive (r ∷ rs) = ltb 0 (r .gives) && positive rs
 
@@ -62,8 +62,8 @@ first : (b l : Bool) (g x : ℕ) → 0 < g → l ≡ not (eqb x 0) → (b || l) 
 first true l g x p h = simp (ne-eqb g 0 (omega arith))
 first false l g x p h = h
 
--- a number is listed exactly where its row gives more than 0
-listed-given : (rows : List Row) (n : ℕ) → T (positive rows) → listed rows n ≡ not (eqb (given 0 rows n) 0)
+-- a number is listed exactly where its entry gives more than 0
+pub listed-given : (ls : List Entry) (n : ℕ) → T (positive ls) → listed ls n ≡ not (eqb (given 0 ls n) 0)
 unfolding given listed
 listed-given [] n t = refl
 listed-given (r ∷ rs) n t =
@@ -71,14 +71,14 @@ listed-given (r ∷ rs) n t =
     first (among (r .keys) n) (listed rs n) (r .gives) (given 0 rs n) (ltb→lt 0 (r .gives) (both .0)) (listed-given rs n (both .1))
 
 module _ (c : ℕ) {t : ℕ} (status : t ≡ statusOf c) where
-  row-listed : listed statusRows c ≡ not (eqb t 0)
-  unfolding statusOf statusRows
-  row-listed = rw status (listed-given statusRows c tt)
+  row-listed : listed statusEntries c ≡ not (eqb t 0)
+  unfolding statusOf statusEntries
+  row-listed = rw status (listed-given statusEntries c tt)
 
   pub end-row : {r : ℕ} → t ≡ 0 → r ≡ nextAbove classEnds c → r ≡ rowOf c
   unfolding rowOf
   end-row z e = rw (row-listed, z) e
 
-  pub own-row : (t ≡ 0 → ⊥) → c ≡ rowOf c
+  pub listed-row : (t ≡ 0 → ⊥) → c ≡ rowOf c
   unfolding rowOf
-  own-row z = rw (row-listed, ne-eqb t 0 z)
+  listed-row z = rw (row-listed, ne-eqb t 0 z)

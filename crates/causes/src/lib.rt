@@ -1,9 +1,10 @@
 ghost use mathlib.Core.Path.{_≡_};
 ghost use Rattle.causes.specs.Causes.{classEnds, nextAbove, rowOf, statusOf, status, causeOf, cause};
 
-// The status for a cause value, or status 0 and refusal 21.
+// The status for a cause value and the cause whose row gave it, or status 0, row 0 and refusal 21.
 pub struct StatusAnswer {
     pub status: u64,
+    pub row: u64,
     pub refusal: u64,
 }
 
@@ -66,11 +67,14 @@ pub fn status_of_cause(cause: u64) -> StatusAnswer
     if 127 < cause {
         return StatusAnswer {
             status: 0,
+            row: 0,
             refusal: 21,
         };
     }
+    let row = row_of(cause);
     StatusAnswer {
-        status: status_of_row(row_of(cause)),
+        status: status_of_row(row),
+        row,
         refusal: 0,
     }
 }

@@ -18,7 +18,7 @@ unfolding lowest
 lowest-length zero n = refl
 lowest-length (suc i) n = rw length-append (omega (arith, lowest-length i (n / 10)))
 
-below-or-not : {P : Type 0} (a b : ℕ) → (a < b → P) → (b ≤ a → P) → P
+pub below-or-not : {P : Type 0} (a b : ℕ) → (a < b → P) → (b ≤ a → P) → P
 below-or-not {P} a b less not-less = go (ltb a b) refl
   where
     go : (t : Bool) → ltb a b ≡ t → P
@@ -26,11 +26,11 @@ below-or-not {P} a b less not-less = go (ltb a b) refl
     go false e = not-less (ltb-false a b e)
 
 module _ (k n : ℕ) where
-  one : n < 10 → digits (suc k) n ≡ last n ∷ []
+  pub one : n < 10 → digits (suc k) n ≡ last n ∷ []
   unfolding digits
   one h = let z : n % 10 ≡ n = omega arith in rw (lt-ltb n 10 h, z)
 
-  more : 10 ≤ n → digits (suc k) n ≡ digits k (n / 10) ++ (last n ∷ [])
+  pub more : 10 ≤ n → digits (suc k) n ≡ digits k (n / 10) ++ (last n ∷ [])
   unfolding digits
   more h = rw (le-ltb n 10 h)
 

@@ -2,7 +2,7 @@
 use mathlib.Core.Path.{_≡_}
 use mathlib.Core.Bool.{Bool, cond}
 use mathlib.Core.List.{List, _++_}
-use Prim.Native.Nat.{ℕ, _+_}
+use Prim.Native.Nat.{ℕ, _+_, _≤_}
 use lib.Dec.{leb}
 use lib.ListN.{length, take, drop}
 
@@ -22,3 +22,9 @@ nextAt d at s = cond (fits d at s) (at + length s) at
 pub record Wrote (d : List ℕ) (at : ℕ) (s : List ℕ) (r : ℕ) (d′ : List ℕ) : Type 0 where
   pub next : r ≡ nextAt d at s
   pub holds : d′ ≡ putAt d at s
+
+-- s was put there, and there was room: s stands at the place at of what was d and is d′ now, and r is the place after it
+pub record Placed (d : List ℕ) (at : ℕ) (s : List ℕ) (r : ℕ) (d′ : List ℕ) : Type 0 where
+  pub wrote : Wrote d at s r d′
+  pub fits : at + length s ≤ length d
+  pub next : r ≡ at + length s

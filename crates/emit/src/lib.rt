@@ -43,7 +43,7 @@ pub fn put(out: &mut [u8], at: usize, s: &[u8]) -> usize
 }
 
 // The last digit of a number, as a byte.
-fn digit(n: u64) -> u8
+pub fn digit(n: u64) -> u8
     ensures { λ r. ⌜ r ≡ last n ⌝ }
 {
     (48 + n % 10) as u8

@@ -66,10 +66,11 @@ pub extern "C" fn mishkolar_reading(
 }
 
 #[no_mangle]
-pub extern "C" fn mishkolar_status_of_cause(value: u64, refusal: &mut u64) -> u64
-    ensures { λ r. ⌜ (r ≡ status value .status) × (now (refusal .exit) ≡ status value .refusal) ⌝ }
+pub extern "C" fn mishkolar_status_of_cause(value: u64, row: &mut u64, refusal: &mut u64) -> u64
+    ensures { λ r. ⌜ (r ≡ status value .status) × (now (row .exit) ≡ status value .row) × (now (refusal .exit) ≡ status value .refusal) ⌝ }
 {
     let answer = causes::status_of_cause(value);
+    *row = answer.row;
     *refusal = answer.refusal;
     answer.status
 }

@@ -7,16 +7,16 @@ use native.Mathlib.Omega.{arith}
 use lib.Dec.{eqb}
 use lib.ListN.{length, length-append}
 use Rattle.octets.specs.Classes.{text}
-use Rattle.sip.specs.Output.{wholeNumeral}
+use Rattle.sip.specs.Output.{wholeNumeral, spaced}
 use Rattle.emit.specs.Put.{Wrote}
 use Rattle.emit.proofs.Numerals.{digits-le}
-use Rattle.records.specs.Report.{spaced, pair, pairs, table, rate, Line, lineText, endText, printed}
+use Rattle.records.specs.Report.{pair, pairs, table, rate, Line, lineText, endText, printed}
 use Rattle.records.specs.Running.{countIn, rowOf, rowLine, countsReport, reportOf}
 use Rattle.records.specs.Pieces.{Replayed, Prints}
 use Rattle.records.specs.Promises.{ReportRoom}
 use Rattle.records.specs.declared.Replay.{Replay}
 use Rattle.records.proofs.Reports.{prints-replayed}
-use Rattle.records.proofs.Placing.{placed, stands}
+use Rattle.emit.proofs.Placing.{placed, stands}
 
 pair-le : (r n : ℕ) → length (pair r n) ≤ 42
 unfolding pair

@@ -1,55 +1,18 @@
--- One text placed after the other, and the report put together so.
+-- The report is put together of texts that are placed one after the other.
 use mathlib.Core.Path.{_≡_, refl, sym, _∙_}
 use mathlib.Core.List.{List, [], _∷_, _++_, append-assoc, append-nil}
 use Prim.Native.Nat.{ℕ, suc, _+_, _-_, _≤_, _<_}
 use native.Mathlib.Omega.{arith}
-use lib.ListN.{length, take, drop, getD, length-append}
-use lib.Seq.{take-append-seam}
+use lib.ListN.{length, getD}
 use borrow.Author.Tests.{ne-eqb}
 use Rattle.octets.specs.Classes.{text}
-use Rattle.sip.specs.Output.{wholeNumeral}
-use Rattle.emit.specs.Put.{Wrote}
-use Rattle.emit.proofs.Laws.{next-nil, put-nil, put-front, then, wrote-room, wrote-length}
-use Rattle.emit.proofs.Numerals.{digits-le}
-use Rattle.records.specs.Report.{spaced, pair, pairs, table, rate, lineText, endText, printed}
-use Rattle.records.specs.Running.{countIn, total, rowOf, rowLine, countsReport}
-use Rattle.records.specs.Placed.{Placed, sharesText}
+use Rattle.sip.specs.Output.{wholeNumeral, spaced}
+use Rattle.emit.specs.Put.{Placed}
+use Rattle.emit.proofs.Placing.{and-then, placed-none}
+use Rattle.records.specs.Report.{pair, pairs, table, rate, lineText, endText, printed}
+use Rattle.records.specs.Running.{countIn, total, rowOf, rowLine, sharesText, countsReport}
 
-pub placed : {d : List ℕ} {at : ℕ} {s : List ℕ} {r : ℕ} {d′ : List ℕ} → Wrote d at s r d′ → at + length s ≤ length d → Placed d at s r d′
-placed w h = record { wrote = w; fits = h; next = wrote-room w h .0 }
-
-pub placed-end : {d : List ℕ} {at : ℕ} {s : List ℕ} {r : ℕ} {d′ : List ℕ} → Wrote d at s r d′ → at + length s ≤ length d → r ≡ at + length s
-placed-end w h = wrote-room w h .0
-
-pub and-then : {d : List ℕ} {at : ℕ} {a : List ℕ} {n : ℕ} {d₁ : List ℕ} {b : List ℕ} {r : ℕ} {d₂ : List ℕ}
-    → Placed d at a n d₁ → Placed d₁ n b r d₂ → Placed d at (a ++ b) r d₂
-and-then {d} {at} {a} {n} {d₁} {b} p q =
-    let l : at + (length a + length b) ≤ length d = omega (arith, p, q, wrote-length (p .wrote)) in
-    placed (then (p .wrote) (q .wrote) l) (rw length-append l)
-
--- a text that is placed at the front
-pub stands : {d : List ℕ} {s : List ℕ} {n : ℕ} {d′ : List ℕ} → Placed d 0 s n d′ → take n d′ ≡ s
-stands {d} {s} {n} {d′} p =
-    let z : n ≡ length s = omega (arith, p .next) in
-    let e : d′ ≡ s ++ drop (length s) d = p .wrote .holds ∙ put-front d s (omega (arith, p .fits)) in
-    rw (z, e) (take-append-seam s (drop (length s) d))
-
--- nothing
-placed-none : (d : List ℕ) (at : ℕ) → at ≤ length d → Placed d at [] at d
-placed-none d at l = record { wrote = record { next = sym (next-nil d at); holds = sym (put-nil d at) }; fits = omega arith; next = omega arith }
-
--- ---- a number; a number after a space; a pair
-
-module _ (n : ℕ) {d : List ℕ} {at : ℕ} {r : ℕ} {d′ : List ℕ} (w : Wrote d at (wholeNumeral n) r d′) (h : at + 20 ≤ length d) where
-  pub number-placed : Placed d at (wholeNumeral n) r d′
-  number-placed = placed w (omega (arith, digits-le 20 n))
-
-  pub number-end : r ≤ at + 20
-  number-end = omega (arith, digits-le 20 n, placed-end w (omega (arith, digits-le 20 n)))
-
-pub spaced-placed : (n : ℕ) {d : List ℕ} {at : ℕ} {s : List ℕ} {k : ℕ} {d₁ : List ℕ} {r : ℕ} {d₂ : List ℕ} → s ≡ 32 ∷ []
-    → Placed d at s k d₁ → Placed d₁ k (wholeNumeral n) r d₂ → Placed d at (spaced n) r d₂
-spaced-placed n e p q = and-then (rw e at p) q
+-- ---- a pair
 
 module _ (reason n : ℕ) where
   pub pair-none : n < 1 → (d : List ℕ) (at : ℕ) → at + 42 ≤ length d → Placed d at (pair reason n) at d

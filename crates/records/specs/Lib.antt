@@ -3,6 +3,5 @@ pub mod History
 pub mod Report
 pub mod Running
 pub mod Pieces
-pub mod Placed
 pub mod Promises
 pub mod Examples

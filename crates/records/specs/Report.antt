@@ -5,7 +5,7 @@ use Prim.Native.Nat.{ℕ, zero, suc, _*_, _/_}
 use lib.Dec.{eqb}
 use lib.ListN.{length}
 use Rattle.octets.specs.Classes.{text}
-use Rattle.sip.specs.Output.{wholeNumeral}
+use Rattle.sip.specs.Output.{wholeNumeral, spaced}
 use Rattle.records.specs.Records.{Recording, recording}
 use Rattle.records.specs.History.{Outcome, relayGroup, otherGroup, unreadGroup, history}
 
@@ -83,10 +83,6 @@ report t =
     }
 
 -- ---- its text
-
--- a space, and the number
-abbrev pub spaced : ℕ → List ℕ
-spaced n = 32 ∷ wholeNumeral n
 
 -- "`reason=count` for each count above 0"
 unfoldable pub pair : ℕ → ℕ → List ℕ

@@ -1,9 +1,10 @@
 -- What is carried from record to record, what one record makes of it, and its report.
 use mathlib.Core.Bool.{Bool, cond}
-use mathlib.Core.List.{List, [], _∷_}
+use mathlib.Core.List.{List, [], _∷_, _++_}
 use Prim.Native.Nat.{ℕ, _+_, _-_, _*_}
 use lib.Dec.{ltb, eqb}
 use lib.ListN.{length, drop, getD, set}
+use Rattle.sip.specs.Output.{spaced}
 use Rattle.records.specs.Records.{Recorded, Recording, recordAt, refusalAt, mostRecords}
 use Rattle.records.specs.History.{Outcome, outcomeOf, history}
 use Rattle.records.specs.Report.{howMany, table, rate, Line, Report}
@@ -80,6 +81,10 @@ rowLine row =
     let all = total row in
     let passed = getD row 0 0 in
     record { came = all; accepted = passed; rate = rate (all - passed) all; refused = drop 1 row }
+
+-- how its text begins: how many came, how many were accepted, the refusals per 10,000
+abbrev pub sharesText : ℕ → ℕ → List ℕ
+sharesText came accepted = (spaced came ++ spaced accepted) ++ spaced (rate (came - accepted) came)
 
 unfoldable pub countsReport : List ℕ → ℕ → ℕ → Report
 countsReport cs n e =

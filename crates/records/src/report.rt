@@ -3,10 +3,10 @@ ghost use mathlib.Core.Path.{_≡_};
 ghost use mathlib.Core.List.{_++_};
 ghost use Prim.Native.Nat.{_+_, _≤_, _<_};
 ghost use lib.ListN.{length};
-ghost use Rattle.sip.specs.Output.{wholeNumeral};
-ghost use Rattle.records.specs.Report.{spaced, pair, pairs, table, rate, lineText, endText, printed};
-ghost use Rattle.records.specs.Running.{countIn, total, rowOf, rowLine, countsReport};
-ghost use Rattle.records.specs.Placed.{Placed, sharesText};
+ghost use Rattle.sip.specs.Output.{wholeNumeral, spaced};
+ghost use Rattle.emit.specs.Put.{Placed};
+ghost use Rattle.records.specs.Report.{pair, pairs, table, rate, lineText, endText, printed};
+ghost use Rattle.records.specs.Running.{countIn, total, rowOf, rowLine, sharesText, countsReport};
 
 // Writes s at the place.
 fn put_text(out: &mut [u8], at: usize, s: &[u8]) -> usize

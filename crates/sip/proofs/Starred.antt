@@ -20,11 +20,11 @@ use Rattle.sip.specs.Values.{sipFrom, sip}
 use Rattle.sip.specs.Values.{tel, uri, display, bracketed, address, sign, paramValue, paramRest, param, withParam, stops, params, party}
 use Rattle.sip.specs.Values.{isTo, isTagged, isFrom, tagOf, isGlobal, person, identity, isIdentity, tokens, isPrivacy, isRestricting}
 use Rattle.sip.specs.Values.{restricts, isRequire, requiredTags, firstPlace, isLacking, isShort, isCalled}
-use Rattle.causes.specs.Causes.{status, cause, statusRows, classEnds, nextAbove, rowOf, statusOf, causeRows, causeOf, listed, given, among}
+use Rattle.causes.specs.Causes.{status, cause, statusEntries, classEnds, nextAbove, rowOf, statusOf, causeEntries, causeOf, listed, given, among}
 use Rattle.sip.specs.Starred.{AllHold, no-row, row}
 
 tables-hold : AllHold starred × AllHold responses × AllHold privacies
-unfolding status cause statusRows classEnds nextAbove rowOf statusOf causeRows causeOf listed given among text isDigit isHex isToken
+unfolding status cause statusEntries classEnds nextAbove rowOf statusOf causeEntries causeOf listed given among text isDigit isHex isToken
     isUser isParameter isHost isBlank isBreak isGap isValue isVisible run all starts escape runEscaped closes quoted decimal number lower
     same sameText isVersion requestLine isVersionFirst statusLine start startsCRLF startsBlank valueSize shape header any joined folded
     trimEnd trim canonical digits startLine anonymous sentValue line fieldLines output rows lookup numberOf find nameOf once mark columnOf

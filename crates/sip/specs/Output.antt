@@ -24,6 +24,10 @@ numeral n = digits 5 n
 abbrev pub wholeNumeral : ℕ → List ℕ
 wholeNumeral n = digits 20 n
 
+-- a space, and the number
+abbrev pub spaced : ℕ → List ℕ
+spaced n = 32 ∷ wholeNumeral n
+
 -- the start line as it goes out: "`SIP/2.0` (letters in either case, written in capitals)"
 unfoldable pub startLine : Start → List ℕ
 startLine (request l) = startBytes (request l) (text " SIP/2.0\r\n")

@@ -57,19 +57,19 @@ blankBuffer zero = []
 blankBuffer (suc n) = 0 ∷ blankBuffer n
 
 -- a row: a message, its side, the buffer, and what it gives; a message, the trunk number, and the calling number; a message, a field's
--- number, and its count; a cause and its status; a status and its cause
+-- number, and its count; a cause, its status and (CR 4) its row; a status and its cause
 pub data Case : Type 0 where
   screening : List ℕ → ℕ → List ℕ → Screened → Case
   calling : List ℕ → List ℕ → List ℕ → Case
   counting : List ℕ → ℕ → ℕ → Case
-  causeGives : ℕ → ℕ → Case
+  causeGives : ℕ → ℕ → ℕ → Case
   statusGives : ℕ → ℕ → Case
 
 abbrev pub Holds : Case → Type 0
 Holds (screening m side buffer gives) = screened m side buffer ≡ gives
 Holds (calling m trunk gives) = callingNumber m trunk ≡ gives
 Holds (counting m n gives) = count m n ≡ gives
-Holds (causeGives c s) = status c ≡ record { status = s; refusal = 0 }
+Holds (causeGives c s r) = status c ≡ record { status = s; row = r; refusal = 0 }
 Holds (statusGives s c) = cause s ≡ record { cause = c; refusal = 0 }
 
 -- on side 1, "with a buffer of 9,216 bytes"
@@ -110,7 +110,7 @@ starred =
     -- *tag only inside From's `<>`: 10
     ∷ refuses (callWith invite hops ("f: <sip:+33187654321@relay.example;tag=a1>" ∷ []) identity noBody) 10 400 3 0
     -- *cause 26: 480
-    ∷ causeGives 26 480
+    ∷ causeGives 26 480 31
     -- *status 606: 127
     ∷ statusGives 606 127
     ∷ []

@@ -1,32 +1,32 @@
 -- Each `return` is an arm's keys or a range between them: the two lemmas of `Arms`, and `past` above the last range.
 use mathlib.Core.List.{List, [], _∷_}
 use borrow.Author.Needs.{zero≤}
-use Rattle.causes.specs.Causes.{Row, row, among, given, causeRows, causeOf}
+use Rattle.causes.specs.Causes.{Entry, entry, among, given, causeEntries, causeOf}
 use Rattle.causes.proofs.Arms.{Range, range, Right, at-key, in-range}
 use Rattle.causes.proofs.Rows.{past}
 use Rattle.causes.proofs.cause_within.Statement.{statement}
 use Rattle.causes.proofs.cause_within.Tie as tie
 
-abbrev arms : List Row
+abbrev arms : List Entry
 arms =
-    row (404 ∷ 485 ∷ 604 ∷ []) 1
-    ∷ row (486 ∷ 600 ∷ []) 17
-    ∷ row (480 ∷ []) 18
-    ∷ row (407 ∷ 603 ∷ []) 21
-    ∷ row (410 ∷ []) 22
-    ∷ row (484 ∷ []) 28
-    ∷ row (502 ∷ []) 38
-    ∷ row (400 ∷ 481 ∷ 500 ∷ 503 ∷ []) 41
-    ∷ row (405 ∷ []) 63
-    ∷ row (406 ∷ 415 ∷ 501 ∷ []) 79
-    ∷ row (408 ∷ 504 ∷ []) 102
+    entry (404 ∷ 485 ∷ 604 ∷ []) 1
+    ∷ entry (486 ∷ 600 ∷ []) 17
+    ∷ entry (480 ∷ []) 18
+    ∷ entry (407 ∷ 603 ∷ []) 21
+    ∷ entry (410 ∷ []) 22
+    ∷ entry (484 ∷ []) 28
+    ∷ entry (502 ∷ []) 38
+    ∷ entry (400 ∷ 481 ∷ 500 ∷ 503 ∷ []) 41
+    ∷ entry (405 ∷ []) 63
+    ∷ entry (406 ∷ 415 ∷ 501 ∷ []) 79
+    ∷ entry (408 ∷ 504 ∷ []) 102
     ∷ []
 
 abbrev ranges : List Range
 ranges = range 0 400 127 ∷ range 400 404 21 ∷ range 404 480 127 ∷ range 480 484 25 ∷ []
 
 right : Right causeOf arms ranges
-unfolding causeOf given causeRows among
+unfolding causeOf given causeEntries among
 right = record { keys = tt; rest = tt }
 
 returns : tie.Need-returns
@@ -69,8 +69,8 @@ returns-13 : tie.Need-returns-13
 returns-13 c = search (in-range right 2)
 
 returns-14 : tie.Need-returns-14
-unfolding causeOf causeRows
-returns-14 c = search (past 127 causeRows arms 484 tt)
+unfolding causeOf causeEntries
+returns-14 c = search (past 127 causeEntries arms 484 tt)
 
 returns-15 : tie.Need-returns-15
 returns-15 c = at-key right 3 (c .match .keys4)

@@ -1,5 +1,5 @@
--- The two laws of `Rows`: a cause with a status is its own row, any other has its class end's.
-use Rattle.causes.proofs.Rows.{end-row, own-row}
+-- The two laws of `Rows`: a cause with a status is its own row, any other has its class end.
+use Rattle.causes.proofs.Rows.{end-row, listed-row}
 use borrow.Author.Needs.{needs}
 use Rattle.causes.proofs.row_of.Statement.{statement}
 use Rattle.causes.proofs.row_of.Tie as tie
@@ -14,7 +14,7 @@ returns : tie.Need-returns
 returns c = search end-row
 
 returns-2 : tie.Need-returns-2
-returns-2 c = search own-row
+returns-2 c = search listed-row
 
 pub row-of-spec : {M : Type 1} → statement M
 row-of-spec = tie.close (tie.spec status-of-row-requires class-end-requires returns returns-2)

@@ -1,23 +1,23 @@
 -- Each `return` is an arm's keys or a range between them: the two lemmas of `Arms`, and `past` above the last range.
 use mathlib.Core.List.{List, [], _∷_}
 use borrow.Author.Needs.{zero≤}
-use Rattle.causes.specs.Causes.{Row, row, among, given, statusRows, statusOf}
+use Rattle.causes.specs.Causes.{Entry, entry, among, given, statusEntries, statusOf}
 use Rattle.causes.proofs.Arms.{Range, range, Right, at-key, in-range}
 use Rattle.causes.proofs.Rows.{past}
 use Rattle.causes.proofs.status_of_row.Statement.{statement}
 use Rattle.causes.proofs.status_of_row.Tie as tie
 
-abbrev arms : List Row
+abbrev arms : List Entry
 arms =
-    row (5 ∷ 91 ∷ []) 404
-    ∷ row (17 ∷ []) 486
-    ∷ row (25 ∷ 31 ∷ 34 ∷ 102 ∷ []) 480
-    ∷ row (22 ∷ []) 410
-    ∷ row (27 ∷ []) 502
-    ∷ row (28 ∷ []) 484
-    ∷ row (29 ∷ 38 ∷ 47 ∷ 50 ∷ 63 ∷ 65 ∷ 70 ∷ 79 ∷ 88 ∷ 95 ∷ 97 ∷ 99 ∷ []) 503
-    ∷ row (1 ∷ []) 404
-    ∷ row (111 ∷ 127 ∷ []) 500
+    entry (5 ∷ 91 ∷ []) 404
+    ∷ entry (17 ∷ []) 486
+    ∷ entry (25 ∷ 31 ∷ 34 ∷ 102 ∷ []) 480
+    ∷ entry (22 ∷ []) 410
+    ∷ entry (27 ∷ []) 502
+    ∷ entry (28 ∷ []) 484
+    ∷ entry (29 ∷ 38 ∷ 47 ∷ 50 ∷ 63 ∷ 65 ∷ 70 ∷ 79 ∷ 88 ∷ 95 ∷ 97 ∷ 99 ∷ []) 503
+    ∷ entry (1 ∷ []) 404
+    ∷ entry (111 ∷ 127 ∷ []) 500
     ∷ []
 
 abbrev ranges : List Range
@@ -25,7 +25,7 @@ ranges =
     range 0 1 0 ∷ range 1 5 503 ∷ range 5 17 0 ∷ range 17 22 480 ∷ range 22 41 0 ∷ range 41 45 503 ∷ range 45 57 0 ∷ range 57 59 503 ∷ []
 
 right : Right statusOf arms ranges
-unfolding statusOf given statusRows among
+unfolding statusOf given statusEntries among
 right = record { keys = tt; rest = tt }
 
 returns : tie.Need-returns
@@ -62,8 +62,8 @@ returns-11 : tie.Need-returns-11
 returns-11 c = search (in-range right 6)
 
 returns-12 : tie.Need-returns-12
-unfolding statusOf statusRows
-returns-12 c = search (past 0 statusRows arms 59 tt)
+unfolding statusOf statusEntries
+returns-12 c = search (past 0 statusEntries arms 59 tt)
 
 returns-13 : tie.Need-returns-13
 returns-13 c = at-key right 2 (c .match .keys3)

@@ -1,22 +1,8 @@
 -- The text stands in a space of its own, and is put from there.
-use mathlib.Core.Path.{_≡_, _∙_}
-use mathlib.Core.List.{List}
-use Prim.Native.Nat.{ℕ}
-use lib.ListN.{take}
-use Rattle.emit.specs.Put.{Wrote}
-use Rattle.records.specs.Report.{printed}
-use Rattle.records.specs.Running.{countsReport, reportOf}
-use Rattle.records.specs.Placed.{Placed}
-use Rattle.records.specs.declared.Replay.{Replay}
-use Rattle.records.proofs.Placing.{stands}
+use Rattle.emit.proofs.Placing.{put-from}
 use borrow.Author.Needs.{needs}
 use Rattle.records.proofs.put_report.Statement.{statement}
 use Rattle.records.proofs.put_report.Tie as tie
-
-put-from : (st : Replay) {d d′ : List ℕ} {n : ℕ} {t : List ℕ} {out : List ℕ} {at r : ℕ} {out′ : List ℕ}
-    → Placed d 0 (printed (countsReport (st .counts) (st .read) (st .end))) n d′ → t ≡ take n d′ → Wrote out at t r out′
-    → Wrote out at (printed (reportOf st)) r out′
-put-from st p e w = rw (e ∙ stands p) at w
 
 slice-aggregate-put-all : tie.Need-slice-aggregate-put-all
 slice-aggregate-put-all c = search needs

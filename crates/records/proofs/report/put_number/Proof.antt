@@ -1,5 +1,5 @@
 -- There is room for twenty digits.
-use Rattle.records.proofs.Placing.{number-placed, number-end}
+use Rattle.emit.proofs.Placing.{number-placed, number-end}
 use borrow.Author.Needs.{needs}
 use Rattle.records.proofs.report.put_number.Statement.{statement}
 use Rattle.records.proofs.report.put_number.Tie as tie

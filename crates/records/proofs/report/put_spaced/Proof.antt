@@ -1,5 +1,5 @@
 -- One after the other.
-use Rattle.records.proofs.Placing.{spaced-placed}
+use Rattle.emit.proofs.Placing.{space-then}
 use borrow.Author.Needs.{needs}
 use Rattle.records.proofs.report.put_spaced.Statement.{statement}
 use Rattle.records.proofs.report.put_spaced.Tie as tie
@@ -17,7 +17,7 @@ same-length : tie.Need-same-length
 same-length c = search needs
 
 returns : tie.Need-returns
-returns c = (search spaced-placed, search needs)
+returns c = (search space-then, search needs)
 
 pub put-spaced-spec : {M : Type 1} → statement M
 put-spaced-spec =

@@ -1,5 +1,5 @@
 -- There is room.
-use Rattle.records.proofs.Placing.{placed, placed-end}
+use Rattle.emit.proofs.Placing.{placed, placed-end}
 use borrow.Author.Needs.{needs}
 use Rattle.records.proofs.report.put_text.Statement.{statement}
 use Rattle.records.proofs.report.put_text.Tie as tie

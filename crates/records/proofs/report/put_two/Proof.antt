@@ -1,5 +1,5 @@
 -- One after the other.
-use Rattle.records.proofs.Placing.{and-then}
+use Rattle.emit.proofs.Placing.{and-then}
 use borrow.Author.Needs.{needs}
 use Rattle.records.proofs.report.put_two.Statement.{statement}
 use Rattle.records.proofs.report.put_two.Tie as tie

@@ -1,4 +1,4 @@
--- The loop's invariant: the digits so far make v, below 10 to their number, and the rest is read from there.
+-- The loop's invariant: all so far are digits and make v, below 10 to their number, and the rest is read from there.
 use mathlib.Core.Path.{_≡_, _∙_, refl}
 use mathlib.Core.Bool.{and-false}
 use mathlib.Core.List.{List}
@@ -12,10 +12,12 @@ use borrow.Author.Needs.{needs}
 use borrow.Author.Tests.{le-leb, lt-leb}
 use mir.Syntax.{w64}
 use mir.Val.{Fits}
-use Rattle.cause_map.specs.declared.Number.the-variants.{Is, Not}
-use Rattle.cause_map.specs.Number.{digits, numberOf}
-use Rattle.cause_map.proofs.number_of.Statement.{statement}
-use Rattle.cause_map.proofs.number_of.Tie as tie
+use Rattle.cause_text.specs.declared.number.Number.the-variants.{Is, Not}
+use Rattle.octets.specs.Classes.{isDigit}
+use Rattle.octets.specs.Scans.{all, decimal}
+use Rattle.cause_text.specs.Number.{numberOf}
+use Rattle.cause_text.proofs.number.number_of.Statement.{statement}
+use Rattle.cause_text.proofs.number.number_of.Tie as tie
 
 module _ (s : List ℕ) where
   short : length s < 1 → Not ≡ numberOf s
@@ -26,26 +28,27 @@ module _ (s : List ℕ) where
   unfolding numberOf
   long h = simp (lt-leb (length s) 19 h, and-false)
 
-  module _ (some : 1 ≤ length s) (few : length s ≤ 19) (v i : ℕ) (read : digits 0 s ≡ digits v (drop i s)) where
-    so-far : numberOf s ≡ digits v (drop i s)
-    unfolding numberOf
-    so-far = simp (le-leb 1 (length s) some, le-leb (length s) 19 few) read
-
-    done : length s ≤ i → Is v ≡ numberOf s
-    unfolding digits
-    done h = rw (so-far, drop-of-length-le s h)
+  module _ (i : ℕ) (digit : all isDigit s ≡ all isDigit (drop i s)) where
+    module _ (some : 1 ≤ length s) (few : length s ≤ 19) (v : ℕ) (read : decimal 0 s ≡ decimal v (drop i s)) where
+      done : length s ≤ i → Is v ≡ numberOf s
+      unfolding numberOf all decimal
+      done h = rw (le-leb 1 (length s) some, le-leb (length s) 19 few, digit, read, drop-of-length-le s h)
 
     low : i < length s → getD s i 0 < 48 → Not ≡ numberOf s
-    unfolding digits
-    low h b = rw (so-far, drop-cons s i 0, lt-leb 48 (getD s i 0) b)
+    unfolding numberOf all isDigit
+    low h b = rw (digit, drop-cons s i 0, lt-leb 48 (getD s i 0) b, and-false)
 
     high : i < length s → 57 < getD s i 0 → Not ≡ numberOf s
-    unfolding digits
-    high h b = rw (so-far, drop-cons s i 0, lt-leb (getD s i 0) 57 b, and-false)
+    unfolding numberOf all isDigit
+    high h b = rw (digit, drop-cons s i 0, lt-leb (getD s i 0) 57 b, and-false, and-false)
 
-  next : (v i : ℕ) → digits 0 s ≡ digits v (drop i s) → i < length s → 48 ≤ getD s i 0 → getD s i 0 ≤ 57 → digits 0 s ≡ digits (v * 10 + (getD s i 0 - 48)) (drop (i + 1) s)
-  unfolding digits
-  next v i read h a b = read ∙ rw (drop-cons s i 0, le-leb 48 (getD s i 0) a, le-leb (getD s i 0) 57 b, add-one)
+    digit-next : i < length s → 48 ≤ getD s i 0 → getD s i 0 ≤ 57 → all isDigit s ≡ all isDigit (drop (i + 1) s)
+    unfolding all isDigit
+    digit-next h a b = digit ∙ rw (drop-cons s i 0, le-leb 48 (getD s i 0) a, le-leb (getD s i 0) 57 b, add-one)
+
+  read-next : (v i : ℕ) → decimal 0 s ≡ decimal v (drop i s) → i < length s → decimal 0 s ≡ decimal (v * 10 + (getD s i 0 - 48)) (drop (i + 1) s)
+  unfolding decimal
+  read-next v i read h = read ∙ rw (drop-cons s i 0, add-one)
 
 module _ (v i n : ℕ) (below : v < 10 ^ i) (h : i < n) (few : n ≤ 19) where
   small : v < 10 ^ 18
@@ -61,7 +64,7 @@ grows : (v i b : ℕ) → v < 10 ^ i → b ≤ 57 → v * 10 + (b - 48) < 10 ^ (
 grows v i b h u = rw (add-one, pow-suc) (omega arith)
 
 abbrev Inv-loop : tie.InvT-loop
-Inv-loop s v₀ i₀ v i = (i ≤ length s) × (v < 10 ^ i) × (digits 0 s ≡ digits v (drop i s))
+Inv-loop s v₀ i₀ v i = (i ≤ length s) × (v < 10 ^ i) × (decimal 0 s ≡ decimal v (drop i s)) × (all isDigit s ≡ all isDigit (drop i s))
 
 abbrev μ-loop : tie.MeasureT-loop
 μ-loop s v₀ i₀ v i = length s - i
@@ -73,7 +76,7 @@ returns-2 : tie.Need-returns-2 Inv-loop μ-loop
 returns-2 c = search long
 
 loop-holds : tie.Need-loop-holds Inv-loop μ-loop
-loop-holds c = (search needs, search needs, refl)
+loop-holds c = (search needs, search needs, refl, refl)
 
 shared-slice-read-b : tie.Need-shared-slice-read-b Inv-loop μ-loop
 shared-slice-read-b c = search needs
@@ -100,7 +103,7 @@ loop-less : tie.Need-loop-less Inv-loop μ-loop
 loop-less c = search needs
 
 loop-again : tie.Need-loop-again Inv-loop μ-loop
-loop-again c = (search needs, search grows, search next)
+loop-again c = (search needs, search grows, search read-next, search digit-next)
 
 returns-5 : tie.Need-returns-5 Inv-loop μ-loop
 returns-5 c = search done

@@ -1,0 +1,25 @@
+-- One after the other.
+use Rattle.emit.proofs.Placing.{space-then}
+use borrow.Author.Needs.{needs}
+use Rattle.cause_text.proofs.table.put_spaced.Statement.{statement}
+use Rattle.cause_text.proofs.table.put_spaced.Tie as tie
+
+slice-aggregate-put-text : tie.Need-slice-aggregate-put-text
+slice-aggregate-put-text c = search needs
+
+put-text-requires : tie.Need-put-text-requires
+put-text-requires c κs = search needs
+
+put-number-requires : tie.Need-put-number-requires
+put-number-requires c κs = search needs
+
+same-length : tie.Need-same-length
+same-length c = search needs
+
+returns : tie.Need-returns
+returns c = (search space-then, search needs)
+
+pub put-spaced-spec : {M : Type 1} → statement M
+put-spaced-spec =
+    tie.close
+    (tie.spec slice-aggregate-put-text put-text-requires put-number-requires same-length returns)

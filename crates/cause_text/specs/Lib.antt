@@ -1,0 +1,5 @@
+pub mod Number
+pub mod Text
+pub mod Input
+pub mod Columns
+pub mod Promises
