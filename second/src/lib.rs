@@ -13,9 +13,10 @@
 //! - `second replay` reads records (CR 3) from standard input and prints the report that the replay program prints.
 //! - `second history` writes a file of records with every line and reason of such a report; `second history SEED [COUNT]` one with COUNT
 //!   drawn records among those (2,000 where it is not given).
+//! - `second causes` reads standard input and prints what the program `cause_map` prints for it (CR 4).
 //! - `second worked DIR` writes the worked texts of second/reviewed/replay.txt there, each with its reader's report.
 //! - `second/regenerate` stores the cases and their lines as crates/vectors/stdin and crates/vectors/stdout, and the records and their report
-//!   as crates/replay/stdin and crates/replay/stdout.
+//!   as crates/replay/stdin and crates/replay/stdout; and what `second causes` prints as the stdout of crates/cause_map and crates/cause_table.
 //!
 //! `drafts` and `recorded` make messages; all other modules are the implementation.
 

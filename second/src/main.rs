@@ -3,6 +3,7 @@
 //! `second cases`: recorded cases from standard input, one line for each.
 //! `second replay`: records from standard input, the report of all.
 //! `second history [SEED [COUNT]]`: writes records to standard output, the fixed ones or those with COUNT drawn ones among them.
+//! `second causes`: a cause from standard input, its status, row and refusal; the whole table where nothing is given.
 //! `second worked DIR`: writes the worked texts of records and their reports to DIR, 001.records and 001.report and so on.
 
 use std::fs;
@@ -11,12 +12,12 @@ use std::path::Path;
 use std::process::exit;
 
 use second::recorded::{self, history, worked};
-use second::{replay, screen, Verdict};
+use second::{causes, replay, screen, Verdict};
 
 const FILLING: u8 = 0xA5;
 
 const USE: &str = "use: second screen [side] [room] | second record | second cases | second replay | second history [SEED [COUNT]] \
-    | second worked DIR";
+    | second causes | second worked DIR";
 
 fn main() {
     let words: Vec<String> = std::env::args().skip(1).collect();
@@ -26,6 +27,7 @@ fn main() {
         Some("cases") => run_cases(),
         Some("replay") => standard_input().and_then(|text| print(replay::report(&text).as_bytes())),
         Some("history") => run_history(&words[1..]),
+        Some("causes") => standard_input().and_then(|input| print(causes::printed(&input).as_bytes())),
         Some("worked") if words.len() == 2 => run_worked(Path::new(&words[1])),
         _ => Err(USE.to_string()),
     };

@@ -1,6 +1,7 @@
 //! "A call in full", its changes, and "Slips to shut out".
 mod common;
 use common::*;
+use second::causes::Answer;
 use second::{cause_of_status, status_of_cause};
 
 #[test]
@@ -32,7 +33,7 @@ fn listed_changes() {
     assert_eq!(numbers(&call_with("INVITE sip:", "INFO sip:")), [6, 405, 0, 0]);
     let inside = call_with("f: <sip:+33187654321@relay.example>;tag=a1", "f: <sip:+33187654321@relay.example;tag=a1>");
     assert_eq!(numbers(&inside), [10, 400, 3, 0]);
-    assert_eq!(status_of_cause(26), (480, 0));
+    assert_eq!(status_of_cause(26), Answer { status: 480, row: 31, refusal: 0 });
     assert_eq!(cause_of_status(606), (127, 0));
 }
 

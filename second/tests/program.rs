@@ -1,4 +1,4 @@
-//! The program: `screen [side] [room]`, `cases`, `replay`, `history [SEED [COUNT]]` and `worked DIR`.
+//! The program: `screen [side] [room]`, `cases`, `replay`, `history [SEED [COUNT]]`, `causes` and `worked DIR`.
 mod common;
 use common::*;
 use second::recorded::{history, worked};
@@ -85,6 +85,17 @@ fn history_writes_records() {
     assert!(program(&["history", "3", "10"], b"") == (Some(0), history::drawn_file(3, 10)));
     assert_eq!(program(&["history", "x"], b"").0, Some(2));
     assert_eq!(program(&["history", "1", "-1"], b"").0, Some(2));
+}
+
+#[test]
+fn causes_prints_a_line_or_the_table() {
+    let wanted = |text: &str| (Some(0), text.as_bytes().to_vec());
+    assert_eq!(program(&["causes"], b"26\n"), wanted("480 31 0\n"));
+    assert_eq!(program(&["causes"], b"34"), wanted("480 34 0\n"));
+    assert_eq!(program(&["causes"], b"128"), wanted("0 0 21\n"));
+    assert_eq!(program(&["causes"], b"\n"), wanted("not a number of 1 to 19 digits\n"));
+    assert_eq!(program(&["causes"], &[b'1'; 100_000]), wanted("not a number of 1 to 19 digits\n"));
+    assert_eq!(program(&["causes"], b""), wanted(include_str!("../../crates/cause_table/stdout")));
 }
 
 #[test]

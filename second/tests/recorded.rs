@@ -1,4 +1,5 @@
-//! The recorded cases reach what they are for, and the stored files of cases and of records are what `second` writes today.
+//! The recorded cases reach what they are for, and the stored files of cases, of records and of causes are what `second` writes
+//! today.
 use second::recorded::{cases, file, Case, MOST, ROOM};
 use second::start::Start;
 use second::profile::{self, Column};
@@ -151,4 +152,38 @@ fn stored_cases_are_up_to_date() {
 #[test]
 fn stored_records_are_up_to_date() {
     stored_files_are_up_to_date("replay", "history", "replay");
+}
+
+/// What is stored as the output of a crate's program is what `second causes` prints for this input.
+fn stored_causes_are_up_to_date(name: &str, input: Stdio) {
+    let path = Path::new(env!("CARGO_MANIFEST_DIR")).join("../crates").join(name).join("stdout");
+    let stored = std::fs::read(&path).unwrap_or_else(|e| panic!("crates/{name}/stdout: {e}"));
+    let printed = Command::new(env!("CARGO_BIN_EXE_second")).arg("causes").stdin(input).output().expect("second").stdout;
+    let [stored, printed] = [stored, printed].map(|bytes| String::from_utf8(bytes).expect("plain text"));
+    assert_eq!(stored, printed, "crates/{name}/stdout and `second causes`");
+}
+
+#[test]
+fn stored_cause_table_is_up_to_date() {
+    stored_causes_are_up_to_date("cause_table", Stdio::null());
+}
+
+#[test]
+fn stored_cause_is_up_to_date() {
+    let path = Path::new(env!("CARGO_MANIFEST_DIR")).join("../crates/cause_map/stdin");
+    let input = std::fs::File::open(path).expect("crates/cause_map/stdin");
+    stored_causes_are_up_to_date("cause_map", Stdio::from(input));
+}
+
+/// The gate stores the table that `cause_table` prints: that program must be `cause_map` but for its first line, which says what it is.
+#[test]
+fn cause_table_is_cause_map_once_more() {
+    let main = |name: &str| {
+        let path = Path::new(env!("CARGO_MANIFEST_DIR")).join("../crates").join(name).join("src/main.rt");
+        std::fs::read_to_string(&path).unwrap_or_else(|e| panic!("{}: {e}", path.display()))
+    };
+    let [map, table] = ["cause_map", "cause_table"].map(main);
+    let code = |text: &str| text.split_once('\n').expect("a first line").1.to_string();
+    assert!(code(&map).contains("fn main"));
+    assert_eq!(code(&map), code(&table));
 }

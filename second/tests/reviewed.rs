@@ -1,9 +1,12 @@
-//! The edge calls of second/reviewed are answered as their writer says, in every number and every byte of the buffer.
+//! The edge calls of second/reviewed are answered as their writers say, in every number and every byte of the buffer, and so are the causes
+//! of second/reviewed/causes.txt.
+use second::causes::Answer;
 use second::recorded::reviewed::{calls, files};
-use second::screen;
+use second::{screen, status_of_cause};
 use std::collections::BTreeSet;
 
 const FILLING: u8 = 0xA5;
+const CAUSES: &str = include_str!("../reviewed/causes.txt");
 
 #[test]
 fn every_call_is_answered_as_written() {
@@ -26,4 +29,29 @@ fn every_reason_is_among_them() {
     let responses = calls().into_iter().filter(|call| call.case.message.starts_with(b"SIP/2.0 "));
     let reasons: BTreeSet<u64> = responses.map(|call| call.answer[0]).collect();
     assert_eq!(reasons, BTreeSet::from([0, 1, 2, 3, 4, 5, 6, 9, 10, 11, 12, 16, 17]));
+}
+
+/// The cause of each line and its answer: "CAUSE STATUS ROW REFUSAL, in decimal, parted by single spaces", "Lines with # are notes".
+fn causes() -> Vec<(u64, Answer)> {
+    let numbers = |line: &str| -> Vec<u64> { line.split(' ').map(|word| word.parse().expect("a number")).collect() };
+    let line = |numbers: Vec<u64>| match numbers[..] {
+        [cause, status, row, refusal] => (cause, Answer { status, row, refusal }),
+        _ => panic!("not four numbers: {numbers:?}"),
+    };
+    CAUSES.lines().filter(|line| !line.starts_with('#')).map(numbers).map(line).collect()
+}
+
+#[test]
+fn every_cause_is_answered_as_written() {
+    for (cause, answer) in causes() {
+        assert_eq!(status_of_cause(cause), answer, "cause {cause}");
+    }
+}
+
+#[test]
+fn every_cause_to_127_and_some_beyond_are_among_them() {
+    let causes: Vec<u64> = causes().into_iter().map(|(cause, _)| cause).collect();
+    assert_eq!(causes[..128], (0..128).collect::<Vec<u64>>());
+    assert!([128, 255, 256, 282, 65536, 1 << 32, 1 << 63, u64::MAX].iter().all(|cause| causes[128..].contains(cause)));
+    assert_eq!(causes.len(), 146);
 }

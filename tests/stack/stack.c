@@ -255,12 +255,13 @@ static void try_report(const struct message *m)
     }
 }
 
-static void try_causes(const void *function)
+/* A function that takes a number, and so many pointers to where its answers go; it is handed no more of them than it has. */
+static void try_causes(const void *function, size_t pointers)
 {
     uint64_t number;
 
     for (number = 0; number < 1000; number++) {
-        struct call call = { function, { number < 990 ? number : UINT64_MAX - number, NUMBER(answers) } };
+        struct call call = { function, { number < 990 ? number : UINT64_MAX - number, NUMBER(answers), pointers == 2 ? NUMBER(answers + 1) : 0 } };
         DOING("%lld", (long long)call.arguments[0]);
         try(&call);
     }
@@ -269,13 +270,13 @@ static void try_causes(const void *function)
 static void try_status_of_cause(const struct message *m)
 {
     (void)m;
-    try_causes(mishkolar_status_of_cause);
+    try_causes(mishkolar_status_of_cause, 2);
 }
 
 static void try_cause_of_status(const struct message *m)
 {
     (void)m;
-    try_causes(mishkolar_cause_of_status);
+    try_causes(mishkolar_cause_of_status, 1);
 }
 
 /* Every function of the header; the report and those of causes take no message. */

@@ -6,7 +6,7 @@ use crate::guarded::{Against, Guarded};
 use crate::privacy::Asked;
 use crate::replay::Replay;
 use crate::watch::NOW;
-use crate::{library, messages};
+use crate::{causes, library, messages};
 use second::drafts::{Dice, Draft};
 use second::start::Start;
 
@@ -44,25 +44,14 @@ impl Bench {
 
     /// All that is not drawn.
     pub fn fixed(&mut self) {
-        let far = [u64::MAX, u64::MAX - 1, 1 << 32, (1 << 32) + 404, (1 << 16) + 17, 1 << 63, 256 + 17, 65536 + 404];
-        for number in (0..2000).chain(far) {
-            self.causes(number);
-        }
         same("screen", &library::with_null_pointers(), &second::screen(&[], 1, &mut []).numbers(), &[], "null pointers");
+        causes::fixed(&mut self.counts);
         self.recorded();
         for plain in [Draft::least(0), Draft::least(6)] {
             self.odd_bytes(&plain);
         }
         self.odd_phrases();
         self.replay.fixed(&mut self.counts);
-    }
-
-    /// One number as a cause and as a status.
-    fn causes(&mut self, number: u64) {
-        self.counts.call(Call::StatusOfCause);
-        self.counts.call(Call::CauseOfStatus);
-        same("status_of_cause", &library::status_of_cause(number), &second::status_of_cause(number), &[], &format!("cause {number}"));
-        same("cause_of_status", &library::cause_of_status(number), &second::cause_of_status(number), &[], &format!("status {number}"));
     }
 
     /// The recorded cases, each against the end and the start of the pages.
@@ -120,8 +109,7 @@ impl Bench {
         self.readings(dice, &message, lent.against);
         self.calling(dice, &message, lent.against);
         self.replay.one(&mut self.counts, dice, &message, lent.side, lent.against);
-        let number = if dice.one_in(10) { dice.number() } else { dice.below(800) as u64 };
-        self.causes(number);
+        causes::one(&mut self.counts, dice);
     }
 
     /// The bytes of the draft, damaged or not; some are first compared by demand 3.

@@ -91,6 +91,12 @@ counted!(Met, METS:
     ReadRelay = "the same, in the line relay",
     ReadOther = "the same, in the line other",
     ReadUnread = "the same, in the line unread",
+    CauseListed = "drawn cause with a row of its own",
+    CauseOfClass = "drawn cause with the row of its class end",
+    CauseOver = "drawn cause of 128 to 399, refused",
+    CauseCut = "drawn cause over 32 bits whose low 32 bits are a cause, refused",
+    RowStood = "status_of_cause: another cause stood where the row goes",
+    RefusalStood = "status_of_cause: 21 stood where 0 goes",
 );
 
 pub struct Counts {

@@ -1,5 +1,7 @@
 //! The functions of include/mishkolar.h, over slices.
 
+use second::causes::Answer;
+
 mod c {
     extern "C" {
         pub fn mishkolar_screen(
@@ -14,13 +16,13 @@ mod c {
         pub fn mishkolar_take_record(counts: *mut u32, read: *mut u64, end: *mut u64, side: u64, message: *const u8, len: usize);
         pub fn mishkolar_replay(text: *const u8, len: usize, counts: *mut u32, read: *mut u64, end: *mut u64);
         pub fn mishkolar_report(counts: *const u32, read: u64, end: u64, out: *mut u8, room: usize) -> usize;
-        pub fn mishkolar_status_of_cause(cause: u64, refusal: *mut u64) -> u64;
+        pub fn mishkolar_status_of_cause(cause: u64, row: *mut u64, refusal: *mut u64) -> u64;
         pub fn mishkolar_cause_of_status(status: u64, refusal: *mut u64) -> u64;
     }
 }
 
 /// What stands in every answer before the call, so that one left unwritten shows.
-const BEFORE: u64 = 0xDEAD_BEEF_DEAD_BEEF;
+pub const BEFORE: u64 = 0xDEAD_BEEF_DEAD_BEEF;
 
 /// Reason, reply, detail, missing count and length.
 pub fn screen(message: &[u8], side: u64, out: &mut [u8]) -> [u64; 5] {
@@ -84,15 +86,17 @@ pub fn report(counts: &[u32], read: u64, end: u64, out: &mut [u8]) -> usize {
     unsafe { c::mishkolar_report(counts.as_ptr(), read, end, out.as_mut_ptr(), out.len()) }
 }
 
-pub fn status_of_cause(cause: u64) -> (u64, u64) {
-    let mut refusal = BEFORE;
-    // SAFETY: one number is written.
-    let status = unsafe { c::mishkolar_status_of_cause(cause, &mut refusal) };
-    (status, refusal)
+/// Status, row and refusal; row and refusal stood as given before.
+pub fn status_of_cause(cause: u64, before: [u64; 2]) -> Answer {
+    let [mut row, mut refusal] = before;
+    // SAFETY: two numbers are written.
+    let status = unsafe { c::mishkolar_status_of_cause(cause, &mut row, &mut refusal) };
+    Answer { status, row, refusal }
 }
 
-pub fn cause_of_status(status: u64) -> (u64, u64) {
-    let mut refusal = BEFORE;
+/// Cause and refusal; the refusal stood as given before.
+pub fn cause_of_status(status: u64, before: u64) -> (u64, u64) {
+    let mut refusal = before;
     // SAFETY: one number is written.
     let cause = unsafe { c::mishkolar_cause_of_status(status, &mut refusal) };
     (cause, refusal)

@@ -1,6 +1,7 @@
 //! Compares every function of libmishkolar.a with the second implementation. See `run` beside this folder.
 
 mod bench;
+mod causes;
 mod counts;
 mod differences;
 mod guarded;
@@ -28,7 +29,7 @@ fn main() {
         usage();
     }
     let (seed, count) = (number(0, 1), number(1, 1_000_000));
-    watch::NOW.set("the calls with null pointers or causes", b"");
+    watch::NOW.set("the calls with null pointers", b"");
     watch::watch_for_faults();
     let mut bench = Bench::new();
     bench.fixed();
