@@ -1,4 +1,4 @@
--- What stands on standard input: the line by its last byte, the printed by the line.
+-- What stands on standard input: the line by its last byte, what is printed by the line.
 use mathlib.Core.Path.{_≡_, refl}
 use mathlib.Core.List.{List, [], _∷_}
 use Prim.Native.Nat.{ℕ, _-_, _≤_, _<_}

@@ -33,7 +33,7 @@ pub whole-table : WholeTable
 unfolding linesOf wholeTable printed tableFrom tableLine column blanks digits status statusOf rowOf statusEntries classEnds nextAbove listed given among text
 whole-table = refl
 
--- ---- how long a printed is
+-- ---- how long what is printed is
 
 answer-length : (c : ℕ) → length (answerText c) ≤ 63
 unfolding answerText
