@@ -12,7 +12,7 @@ use Rattle.sip.specs.Lines.{Start, request, response, start, startBytes,
 use Rattle.sip.specs.Profile.{rows, find, mark, numberOf, ignored}
 use Rattle.sip.specs.declared.Column.{Column}
 use Rattle.sip.specs.declared.Column.the-variants.{Invite, Reinvite, Ack, Bye, Cancel, Options, InviteSuccess, CancelResponse, OtherResponse}
-use Rattle.sip.specs.Refusals.{unread, read, lines, kept, valueOf, firstCSeqMethod, responseColumnOf, messageColumn, keptOf, judgement}
+use Rattle.sip.specs.Refusals.{unread, read, headerLines, lines, kept, valueOf, firstCSeqMethod, responseColumnOf, messageColumn, keptOf, judgement}
 use Rattle.sip.specs.Screen.{screened}
 use Rattle.sip.specs.Change.{StartShaped, AllShaped, none-left, one-more, headerBytes, Varied, no-fields, unchanged, added, renamed, Changed}
 use Rattle.sip.specs.Promises.{Demand3, SameColumn, ReadAs, Everything, NothingElse}
@@ -98,14 +98,20 @@ varied-same p (f ∷ fs) = unchanged (varied-same p fs)
 -- ---- both messages read
 
 module _ (l : Start) (version rest : List ℕ) (w : StartShaped l version) where
+  -- whatever the number of fields
+  pub lines-shaped :
+      (m : List ℕ) (fs : List Field) → AllShaped fs → m ≡ startBytes l version ++ headerBytes fs rest → length m ≤ 8192
+      → lines m ≡ headerLines l (some (record { fields = fs; rest = rest }))
+  unfolding lines
+  lines-shaped m fs a e b =
+      let s : start m ≡ some l = rw e (start-bytes l version (headerBytes fs rest) w) in
+      let d : drop (startSize l) m ≡ headerBytes fs rest = rw e (start-rest l version (headerBytes fs rest) w) in
+      rw (le-leb (length m) 8192 b, s, d, header-bytes fs rest a)
+
   lines-bytes :
       (m : List ℕ) (fs : List Field) → AllShaped fs → m ≡ startBytes l version ++ headerBytes fs rest → length m ≤ 8192 → length fs ≤ 96
       → lines m ≡ read l (record { fields = fs; rest = rest })
-  unfolding lines
-  lines-bytes m fs a e b f =
-      let s : start m ≡ some l = rw e (start-bytes l version (headerBytes fs rest) w) in
-      let d : drop (startSize l) m ≡ headerBytes fs rest = rw e (start-rest l version (headerBytes fs rest) w) in
-      rw (le-leb (length m) 8192 b, s, d, header-bytes fs rest a, le-leb (length fs) 96 f)
+  lines-bytes m fs a e b f = lines-shaped m fs a e b ∙ rw (le-leb (length fs) 96 f)
 
 pub nothing-else : NothingElse
 nothing-else m m′ c =

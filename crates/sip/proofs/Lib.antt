@@ -28,3 +28,5 @@ pub mod Identities
 pub mod Tags
 pub mod Calling
 pub mod Grammar
+pub mod Callers
+pub mod Pairs

@@ -1,5 +1,7 @@
--- Every starred case, every worked response and every worked Privacy holds: both sides of each row compute to the same.
+-- Every starred case, every worked response, every worked Privacy and every worked pair of callers holds: both sides of each row compute to
+-- the same, and so does the test for two callers.
 use mathlib.Core.Path.{refl}
+use Prim.Native.Nat.{ℕ}
 use Rattle.octets.specs.Classes.{text, isDigit, isHex, isToken, isUser, isParameter, isHost, isBlank, isBreak, isGap, isValue, isVisible}
 use Rattle.octets.specs.Scans.{run, all, starts, escape, runEscaped, closes, quoted, decimal, number, lower, same, sameText, any}
 use Rattle.sip.specs.Lines.{isVersion, requestLine, isVersionFirst, statusLine, start, startsCRLF, startsBlank, valueSize, shape, header}
@@ -14,6 +16,8 @@ use Rattle.sip.specs.Screen.{masks, delivered, screened}
 use Rattle.sip.specs.Starred.{linesOf, callWith, call, printed, blankBuffer, starred}
 use Rattle.sip.specs.Responses.{responseWith, written, responses}
 use Rattle.sip.specs.Privacy.{requestWith, outgoing, callWithPrivacy, masked, unmasked, privacies}
+use Rattle.sip.specs.Hidden.{OtherCall, PairsHold, otherCall, shown, shortCall, shortSent}
+use Rattle.sip.specs.Hidden.{manyFields, pairs}
 use Rattle.sip.specs.Readings.{valueSpan, valueSpans, spans, count, callingNumber}
 use Rattle.sip.specs.Values.{isEmpty, isNumber, isMaxForwards, isContentLength, isCSeq, cseqMethod, isCallId, host, port, hostPort, tail}
 use Rattle.sip.specs.Values.{sipFrom, sip}
@@ -22,8 +26,10 @@ use Rattle.sip.specs.Values.{isTo, isTagged, isFrom, tagOf, isGlobal, pe
 use Rattle.sip.specs.Values.{restricts, isRequire, requiredTags, firstPlace, isLacking, isShort, isCalled}
 use Rattle.causes.specs.Causes.{status, cause, statusEntries, classEnds, nextAbove, rowOf, statusOf, causeEntries, causeOf, listed, given, among}
 use Rattle.sip.specs.Starred.{AllHold, no-row, row}
+use Rattle.sip.proofs.Pairs.{differ, twoFields, twoHeaders, twoStarts, areTwoCallers, two-callers, AllCompute, no-more, next, all-hold}
 
-tables-hold : AllHold starred × AllHold responses × AllHold privacies
+-- what the rows compute with: whoever unfolds this unfolds all of it
+unfoldable computed : ℕ
 unfolding status cause statusEntries classEnds nextAbove rowOf statusOf causeEntries causeOf listed given among text isDigit isHex isToken
     isUser isParameter isHost isBlank isBreak isGap isValue isVisible run all starts escape runEscaped closes quoted decimal number lower
     same sameText isVersion requestLine isVersionFirst statusLine start startsCRLF startsBlank valueSize shape header any joined folded
@@ -32,10 +38,15 @@ unfolding status cause statusEntries classEnds nextAbove rowOf statusOf causeEnt
     isUri reason8 firstRepeat reason9 wellFormed firstMalformed reason10 exceeds reason11 missingOf reason12 noHops reason13 allTags
     firstLacking reason14 reason15 reasons responseReasons judgedRequest firstCSeqMethod responseColumnOf judgedResponse judgement masks
     delivered screened linesOf callWith call printed blankBuffer starred responseWith written responses requestWith outgoing
-    callWithPrivacy masked unmasked privacies valueSpan valueSpans spans count callingNumber isEmpty isNumber isMaxForwards
+    callWithPrivacy masked unmasked privacies otherCall shown shortCall shortSent manyFields pairs twoFields twoHeaders twoStarts
+    areTwoCallers valueSpan valueSpans spans count callingNumber isEmpty isNumber isMaxForwards
     isContentLength isCSeq cseqMethod isCallId host port hostPort tail sipFrom sip tel uri display bracketed address sign paramValue
     paramRest param withParam stops params party isTo isTagged isFrom tagOf isGlobal person identity isIdentity tokens isPrivacy
     isRestricting restricts isRequire requiredTags firstPlace isLacking isShort isCalled
+computed = 0
+
+tables-hold : AllHold starred × AllHold responses × AllHold privacies
+unfolding computed
 tables-hold = (
   row refl (row refl (row refl (row refl (row refl (row refl (row refl (row refl (row refl (row refl (row refl (row refl (row refl
       no-row)))))))))))),
@@ -56,3 +67,17 @@ responses-hold = tables-hold .1
 
 pub privacies-hold : AllHold privacies
 privacies-hold = tables-hold .2
+
+pairs-compute : AllCompute pairs
+unfolding computed
+pairs-compute =
+    next refl (next refl (next refl (next refl (next refl (next refl (next refl (next refl (next refl (next refl (next refl (next
+    refl (next refl (next refl (next refl (next refl (next refl (next refl (next refl (next refl (next refl (next refl (next refl
+    (next refl (next refl no-more))))))))))))))))))))))))
+
+pub other-call : OtherCall
+unfolding computed
+other-call = record { two-callers = two-callers call otherCall refl; bytes-differ = differ call otherCall refl }
+
+pub pairs-hold : PairsHold pairs
+pairs-hold = all-hold pairs-compute

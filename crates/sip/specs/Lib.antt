@@ -12,3 +12,5 @@ pub mod Responses
 pub mod Privacy
 pub mod Grammar
 pub mod GrammarPromises
+pub mod Callers
+pub mod Hidden

@@ -9,12 +9,13 @@ use Rattle.octets.specs.Classes.{text}
 use Rattle.sip.specs.declared.Column.the-variants.{Invite, Reinvite}
 use Rattle.sip.specs.Lines.{RequestLine, StatusLine, requestLine, statusLine, Start, request, response, start, Header}
 use Rattle.sip.specs.Profile.{ignored}
-use Rattle.sip.specs.Refusals.{Answer, lines, read, withheld, Passed, messageColumn, judgement, accepted}
+use Rattle.sip.specs.Refusals.{Answer, lines, read, headerLines, withheld, Passed, messageColumn, keptOf, judgement, accepted}
 use Rattle.sip.specs.Values.{isGlobal}
 use Rattle.sip.specs.Output.{output}
 use Rattle.sip.specs.Screen.{screened}
 use Rattle.sip.specs.Readings.{callingNumber}
 use Rattle.sip.specs.Change.{Changed}
+use Rattle.sip.specs.Callers.{TwoCallers}
 
 -- CR 1: a start line is a request line or a status line (RFC 3261, start-line), and no text is both
 abbrev pub OneKind : Type 0
@@ -70,6 +71,36 @@ OnlyWithheldMasked =
 -- "both INVITE columns ignore the same"
 abbrev pub SameIgnored : Type 0
 SameIgnored = (n : ℕ) → ignored (some Reinvite) n ≡ ignored (some Invite) n
+
+-- CR 5, "The digits cannot show": of two callers, on side 1 and with the same buffer, "The whole answer and the buffer afterwards are then the
+-- same." The answer is its five numbers; refusals are answers too
+abbrev pub DigitsHidden : Type 0
+DigitsHidden = (m m′ buffer : List ℕ) → TwoCallers m m′ → screened m′ 1 buffer ≡ screened m 1 buffer
+
+-- "both withheld": it does not matter which of the two is called the first
+abbrev pub EitherWay : Type 0
+EitherWay = (m m′ : List ℕ) → TwoCallers m m′ → TwoCallers m′ m
+
+-- Nothing is left out of CR 5: every INVITE that reads and is withheld is one of two callers, with the lines that are read
+pub record CallerReadAs (m : List ℕ) (l : RequestLine) (h : Header) : Type 0 where
+  pub callers : TwoCallers m m
+  pub same-line : callers .line ≡ l
+  pub same-fields : callers .fields ≡ h .fields
+  pub same-rest : callers .rest ≡ h .rest
+
+abbrev pub EveryWithheld : Type 0
+EveryWithheld =
+    (m : List ℕ) (l : RequestLine) (h : Header) → lines m ≡ read (request l) h → l .method ≡ text "INVITE"
+    → withheld (keptOf (request l) (h .fields)) ≡ true → CallerReadAs m l h
+
+-- and nothing else is in it: both messages read as the lines that it speaks of, or have more than 96 fields (reason 5)
+pub record CallersRead (m m′ : List ℕ) (c : TwoCallers m m′) : Type 0 where
+  pub first-reads : lines m ≡ headerLines (request (c .line)) (some (record { fields = c .fields; rest = c .rest }))
+  pub second-reads : lines m′ ≡ headerLines (request (c .line)) (some (record { fields = c .fields′; rest = c .rest }))
+  pub as-many : length (c .fields′) ≡ length (c .fields)
+
+abbrev pub NoOtherCallers : Type 0
+NoOtherCallers = (m m′ : List ℕ) (c : TwoCallers m m′) → CallersRead m m′ c
 
 -- CR 1: the calling number of an accepted response is the trunk number, since its P-Asserted-Identity is ignored
 abbrev pub ResponseCalling : Type 0

@@ -29,7 +29,7 @@ masks side r = eqb side 1 && withheld (r .fields)
 unfoldable pub delivered : Passed → List ℕ → List ℕ → Screened
 delivered r o buffer = cond (leb (length o) (length buffer)) (sending o buffer) (refusing (replied (r .line) (refusal 16 500 (length o) 0)) buffer)
 
-abbrev concluded : ℕ → List ℕ → Judgement → Screened
+abbrev pub concluded : ℕ → List ℕ → Judgement → Screened
 concluded side buffer (refused a) = refusing a buffer
 concluded side buffer (accepted r) = delivered r (output (masks side r) r) buffer
 

@@ -24,19 +24,19 @@ callWith line forwards from asserted cut =
     ∷ (from ++ ("t: <sip:+33123456789@gw.example>" ∷ "i: 9x@relay.example" ∷ "CSeq: 1 INVITE" ∷ "m: <sip:relay.example>"
     ∷ "Allow: INVITE, ACK, BYE" ∷ "X-Relay-Mode: text" ∷ asserted ∷ "Privacy: id" ∷ cut ∷ [])))
 
-abbrev invite : String
+abbrev pub invite : String
 invite = "INVITE sip:+33123456789@gw.example SIP/2.0"
 
-abbrev hops : String
+abbrev pub hops : String
 hops = "Max-Forwards: 70"
 
-abbrev caller : List String
+abbrev pub caller : List String
 caller = "f: <sip:+33187654321@relay.example>;tag=a1" ∷ []
 
-abbrev identity : String
+abbrev pub identity : String
 identity = "P-Asserted-Identity: <sip:+33187654321@relay.example>"
 
-abbrev noBody : String
+abbrev pub noBody : String
 noBody = "l: 0"
 
 -- the call

@@ -79,6 +79,10 @@ module _ (c : Option Column) where
       go false true p q ih = here (first (eqb-true (numberOf (f .name)) 16 q) p (rw (p, q) at h))
       go false false p q ih = later (ih (rw (p, q) at h))
 
+-- also where the message is refused
+pub withheld-found : (c : Option Column) (fs : List Field) → withheld (kept c fs) ≡ true → HoldsAny (Withholding c) fs
+withheld-found c fs w = found c fs (withheld-so (kept c fs) w)
+
 pub withheld-read : WithheldRead
 unfolding judgement once find rows
 withheld-read m l h r e a =
@@ -86,6 +90,6 @@ withheld-read m l h r e a =
     let es : List Entry = keptOf l (h .fields) in
     let i : Accepted l es (h .rest) r = judged-inv l es (h .rest) r (rw e at a) in
     rw (i .made) (
-      (λ w. found c (h .fields) (withheld-so es w)),
+      (λ w. withheld-found c (h .fields) w),
       (λ w. so-withheld es (taken c (h .fields) (at-most-once 16 refl es (i .unrepeated)) w)),
     )

@@ -1,0 +1,232 @@
+-- Whether two messages are two callers (CR 5) can be computed: what is found is compared part by part, and every part found is such a one.
+use mathlib.Core.Path.{_≡_, refl, sym, ap, _∙_}
+use mathlib.Core.Bool.{Bool, true, false, _&&_}
+use mathlib.Core.List.{List, [], _∷_, _++_}
+use mathlib.Core.Option.{Option, none, some}
+use Prim.Native.Nat.{ℕ, _≤_}
+use native.Mathlib.Omega.{arith}
+use lib.Dec.{eqb, leb}
+use lib.ListN.{length, take, drop, length-append, take-append-drop}
+use lib.Seq.{take-at}
+use borrow.Author.Tests.{eqb-true, leb-true}
+use Rattle.octets.specs.Classes.{text}
+use Rattle.octets.specs.Scans.{same}
+use Rattle.sip.specs.Lines.{RequestLine, Start, request, response, start, startBytes, startSize, Field, Header, header, canonical}
+use Rattle.sip.specs.Profile.{numberOf, columnOf}
+use Rattle.sip.specs.Values.{isFrom, tagOf, isIdentity, identity}
+use Rattle.sip.specs.Refusals.{withheld, keptOf}
+use Rattle.sip.specs.Change.{RequestShaped, headerBytes}
+use Rattle.sip.specs.Screen.{Screened, screened}
+use Rattle.sip.specs.Readings.{callingNumber}
+use Rattle.sip.specs.Hidden.{Pair, alike, apart, numbered, PairHolds, PairsHold, no-pair, pair}
+use Rattle.sip.specs.Callers.{withValue, OtherCaller, no-fields, equal, other-from, other-identity, TwoCallers}
+use Rattle.sip.proofs.Tests.{never, and-left, and-right}
+use Rattle.sip.proofs.Texts.{same-eq, same-refl}
+use Rattle.sip.proofs.Starts.{version-size, start-here}
+use Rattle.sip.proofs.Headers.{header-here}
+use Rattle.sip.proofs.Grammar.Promises.{from-read, identity-read}
+use Rattle.sip.proofs.Grammar.Withheld.{withheld-found}
+
+-- texts that are not the same by the test are not equal
+pub differ : (s t : List ℕ) → same s t ≡ false → s ≡ t → ⊥
+differ s t e p = let z : same t t ≡ false = rw p at e in never (let w = same-refl t in cc)
+
+-- ---- the fields
+
+-- the canonical values of one field: whether the values are equal, and whether the field is From or P-Asserted-Identity
+abbrev twoValues : Bool → Bool → Bool → List ℕ → List ℕ → Bool
+twoValues true isThree isFifteen v w = true
+twoValues false true isFifteen v w = isFrom v && (isFrom w && same (tagOf v) (tagOf w))
+twoValues false false true v w = isIdentity v && isIdentity w
+twoValues false false false v w = false
+
+abbrev valuesOf : Field → Field → Bool
+valuesOf f g =
+    twoValues (same (f .value) (g .value)) (eqb (numberOf (f .name)) 3) (eqb (numberOf (f .name)) 15) (canonical (f .value))
+    (canonical (g .value))
+
+unfoldable pub twoFields : List Field → List Field → Bool
+twoFields [] [] = true
+twoFields [] (g ∷ gs) = false
+twoFields (f ∷ fs) [] = false
+twoFields (f ∷ fs) (g ∷ gs) =
+    let others = twoFields fs gs in
+    same (f .name) (g .name) && (same (f .gap) (g .gap) && (valuesOf f g && others))
+
+-- two fields of one name and gap in front
+module _ (f : Field) (w : List ℕ) (fs gs : List Field) (o : OtherCaller fs gs) where
+  abbrev c : List ℕ
+  c = canonical (f .value)
+
+  abbrev d : List ℕ
+  d = canonical w
+
+  two-froms : numberOf (f .name) ≡ 3 → (isFrom c && (isFrom d && same (tagOf c) (tagOf d))) ≡ true → OtherCaller (f ∷ fs) (withValue f w ∷ gs)
+  two-froms n e =
+      let a = and-right (isFrom c) (isFrom d && same (tagOf c) (tagOf d)) e in
+      let t = same-eq (tagOf c) (tagOf d) (and-right (isFrom d) (same (tagOf c) (tagOf d)) a) in
+      let (u, x) = from-read c (tagOf d) .0 (and-left (isFrom c) (isFrom d && same (tagOf c) (tagOf d)) e, t) in
+      let (u′, y) = from-read d (tagOf d) .0 (and-left (isFrom d) (same (tagOf c) (tagOf d)) a, refl) in
+      other-from n x y o
+
+  two-identities : numberOf (f .name) ≡ 15 → (isIdentity c && isIdentity d) ≡ true → OtherCaller (f ∷ fs) (withValue f w ∷ gs)
+  two-identities n e =
+      let x = identity-read c (identity c) .0 (and-left (isIdentity c) (isIdentity d) e, refl) in
+      let y = identity-read d (identity d) .0 (and-right (isIdentity c) (isIdentity d) e, refl) in
+      other-identity n x y o
+
+  two-values : valuesOf f (withValue f w) ≡ true → OtherCaller (f ∷ fs) (withValue f w ∷ gs)
+  two-values e = go (same (f .value) w) (eqb (numberOf (f .name)) 3) (eqb (numberOf (f .name)) 15) refl refl refl e
+    where
+      go : (s t i : Bool) → same (f .value) w ≡ s → eqb (numberOf (f .name)) 3 ≡ t → eqb (numberOf (f .name)) 15 ≡ i → twoValues s t i c d ≡ true
+          → OtherCaller (f ∷ fs) (withValue f w ∷ gs)
+      go true t i p q r e = rw (← same-eq (f .value) w p) (equal o)
+      go false true i p q r e = two-froms (eqb-true (numberOf (f .name)) 3 q) e
+      go false false true p q r e = two-identities (eqb-true (numberOf (f .name)) 15 r) e
+      go false false false p q r e = never (cc)
+
+fields-pair : (fs gs : List Field) → twoFields fs gs ≡ true → OtherCaller fs gs
+unfolding twoFields
+fields-pair [] [] e = no-fields
+fields-pair [] (g ∷ gs) e = never (cc)
+fields-pair (f ∷ fs) [] e = never (cc)
+fields-pair (f ∷ fs) (g ∷ gs) e =
+    let values = valuesOf f g in
+    let a = and-right (same (f .name) (g .name)) (same (f .gap) (g .gap) && (values && twoFields fs gs)) e in
+    let b = and-right (same (f .gap) (g .gap)) (values && twoFields fs gs) a in
+    let n : f .name ≡ g .name = same-eq (f .name) (g .name) (and-left (same (f .name) (g .name)) _ e) in
+    let p : f .gap ≡ g .gap = same-eq (f .gap) (g .gap) (and-left (same (f .gap) (g .gap)) _ a) in
+    let k : withValue f (g .value) ≡ g = rw (n, p) in
+    rw (← k) (two-values f (g .value) fs gs (fields-pair fs gs (and-right values (twoFields fs gs) b)) (and-left values (twoFields fs gs) b))
+
+-- ---- the messages
+
+unfoldable pub twoHeaders : RequestLine → Option Header → Option Header → Bool
+twoHeaders l none o = false
+twoHeaders l (some h) none = false
+twoHeaders l (some h) (some k) =
+    same (h .rest) (k .rest) && (twoFields (h .fields) (k .fields) && withheld (keptOf (request l) (h .fields)))
+
+unfoldable pub twoStarts : List ℕ → List ℕ → Option Start → Bool
+twoStarts m m′ none = false
+twoStarts m m′ (some (response l)) = false
+twoStarts m m′ (some (request l)) =
+    let n = startSize (request l) in
+    same (l .method) (text "INVITE") && (same (take n m) (take n m′) && twoHeaders l (header 0 (drop n m)) (header 0 (drop n m′)))
+
+unfoldable pub areTwoCallers : List ℕ → List ℕ → Bool
+areTwoCallers m m′ = leb (length m) 8192 && (leb (length m′) 8192 && twoStarts m m′ (start m))
+
+-- the bytes of a request line that is read
+start-size : (l : RequestLine) (version : List ℕ) → RequestShaped l version → length (startBytes (request l) version) ≡ startSize (request l)
+start-size l version w =
+    let v = version-size version (w .version-written) in
+    rw (length-append (l .method) (32 ∷ (l .uri ++ version)), length-append (l .uri) version, v) (omega arith)
+
+module _ (m m′ : List ℕ) (b : length m ≤ 8192) (b′ : length m′ ≤ 8192) where
+  headers-pair : (l : RequestLine) → start m ≡ some (request l) → l .method ≡ text "INVITE"
+      → take (startSize (request l)) m ≡ take (startSize (request l)) m′ → (h k : Header) → header 0 (drop (startSize (request l)) m) ≡ some h
+      → header 0 (drop (startSize (request l)) m′) ≡ some k → h .rest ≡ k .rest → OtherCaller (h .fields) (k .fields)
+      → withheld (keptOf (request l) (h .fields)) ≡ true → TwoCallers m m′
+  headers-pair l p i t h k q r e o w =
+      let n = startSize (request l) in
+      let s = start-here m (request l) p in
+      let x = header-here 0 (drop n m) h q in
+      let y = header-here 0 (drop n m′) k r in
+      let z : take n m ≡ startBytes (request l) (s .version) =
+      ap (take n) (sym (s .here)) ∙ take-at (startBytes (request l) (s .version)) (drop n m) n (start-size l (s .version) (s .shaped)) in
+      record {
+        line = l;
+        version = s .version;
+        fields = h .fields;
+        fields′ = k .fields;
+        rest = h .rest;
+        an-invite = i;
+        start-shaped = s .shaped;
+        all-shaped = x .shaped;
+        all-shaped′ = y .shaped;
+        other-caller = o;
+        first = rw (x .here) (sym (s .here));
+        second = rw (e, y .here, ← z, t) (sym (take-append-drop n m′));
+        within-bytes = b;
+        within-bytes′ = b′;
+        is-withheld = withheld-found (columnOf (l .method) false) (h .fields) w;
+      }
+
+  starts-pair : (o : Option Start) → start m ≡ o → twoStarts m m′ o ≡ true → TwoCallers m m′
+  unfolding twoStarts twoHeaders
+  starts-pair none p e = never (cc)
+  starts-pair (some (response l)) p e = never (cc)
+  starts-pair (some (request l)) p e =
+      let n = startSize (request l) in
+      let a = and-right (same (l .method) (text "INVITE")) _ e in
+      let i = same-eq (l .method) (text "INVITE") (and-left (same (l .method) (text "INVITE")) _ e) in
+      let t = same-eq (take n m) (take n m′) (and-left (same (take n m) (take n m′)) _ a) in
+      go i t (header 0 (drop n m)) (header 0 (drop n m′)) refl refl (and-right (same (take n m) (take n m′)) _ a)
+    where
+      go : l .method ≡ text "INVITE" → take (startSize (request l)) m ≡ take (startSize (request l)) m′ → (o o′ : Option Header)
+          → header 0 (drop (startSize (request l)) m) ≡ o → header 0 (drop (startSize (request l)) m′) ≡ o′ → twoHeaders l o o′ ≡ true
+          → TwoCallers m m′
+      go i t none o′ q r c = never (cc)
+      go i t (some h) none q r c = never (cc)
+      go i t (some h) (some k) q r c =
+          let d = and-right (same (h .rest) (k .rest)) _ c in
+          headers-pair l p i t h k q r (same-eq (h .rest) (k .rest) (and-left (same (h .rest) (k .rest)) _ c))
+          (fields-pair (h .fields) (k .fields) (and-left (twoFields (h .fields) (k .fields)) _ d)) (and-right (twoFields (h .fields) (k .fields)) _ d)
+
+pub two-callers : (m m′ : List ℕ) → areTwoCallers m m′ ≡ true → TwoCallers m m′
+unfolding areTwoCallers
+two-callers m m′ e =
+    let a = and-right (leb (length m) 8192) _ e in
+    starts-pair m m′ (leb-true (length m) 8192 (and-left (leb (length m) 8192) _ e))
+    (leb-true (length m′) 8192 (and-left (leb (length m′) 8192) _ a)) (start m) refl (and-right (leb (length m′) 8192) _ a)
+
+-- ---- the rows of worked pairs, each from what is computed of it
+
+-- whether they are two callers, whether what is to differ is the same, and what each gives
+record Found (A : Type 0) : Type 0 where
+  callers : Bool
+  same : Bool
+  first : A
+  second : A
+
+abbrev found : {A : Type 0} → Bool → Bool → A → A → Found A
+found c s a b = record { callers = c; same = s; first = a; second = b }
+
+abbrev Computes : Pair → Type 0
+Computes (alike m m′ buffer gives) =
+    found (areTwoCallers m m′) (same m m′) (screened m 1 buffer) (screened m′ 1 buffer) ≡ found true false gives gives
+Computes (apart m m′ side buffer gives gives′) =
+    found true (same (gives .buffer) (gives′ .buffer)) (screened m side buffer) (screened m′ side buffer) ≡ found true false gives gives′
+Computes (numbered m m′ trunk number number′) =
+    found (areTwoCallers m m′) (same number number′) (callingNumber m trunk) (callingNumber m′ trunk) ≡ found true false number number′
+
+pub data AllCompute : List Pair → Type 0 where
+  no-more : AllCompute []
+  next : {p : Pair} {ps : List Pair} → Computes p → AllCompute ps → AllCompute (p ∷ ps)
+
+holds : (p : Pair) → Computes p → PairHolds p
+holds (alike m m′ buffer gives) e =
+    record {
+      two-callers = two-callers m m′ (ap (λ (c : Found Screened). c .callers) e);
+      bytes-differ = differ m m′ (ap (λ (c : Found Screened). c .same) e);
+      first-gives = ap (λ (c : Found Screened). c .first) e;
+      second-gives = ap (λ (c : Found Screened). c .second) e;
+    }
+holds (apart m m′ side buffer gives gives′) e =
+    record {
+      first-gives = ap (λ (c : Found Screened). c .first) e;
+      second-gives = ap (λ (c : Found Screened). c .second) e;
+      buffers-differ = differ (gives .buffer) (gives′ .buffer) (ap (λ (c : Found Screened). c .same) e);
+    }
+holds (numbered m m′ trunk number number′) e =
+    record {
+      two-callers = two-callers m m′ (ap (λ (c : Found (List ℕ)). c .callers) e);
+      first-number = ap (λ (c : Found (List ℕ)). c .first) e;
+      second-number = ap (λ (c : Found (List ℕ)). c .second) e;
+      numbers-differ = differ number number′ (ap (λ (c : Found (List ℕ)). c .same) e);
+    }
+
+pub all-hold : {ps : List Pair} → AllCompute ps → PairsHold ps
+all-hold no-more = no-pair
+all-hold (next {p = p} c r) = pair (holds p c) (all-hold r)

@@ -1,0 +1,52 @@
+-- CR 5, "The digits cannot show": two INVITEs that differ in their caller alone.
+use mathlib.Core.Path.{_≡_}
+use mathlib.Core.List.{List, [], _∷_, _++_}
+use Prim.Native.Nat.{ℕ, _≤_}
+use lib.ListN.{length}
+use Rattle.octets.specs.Classes.{text}
+use Rattle.sip.specs.Lines.{RequestLine, request, startBytes, Field, canonical}
+use Rattle.sip.specs.Profile.{numberOf}
+use Rattle.sip.specs.Refusals.{messageColumn}
+use Rattle.sip.specs.Change.{RequestShaped, AllShaped, headerBytes}
+use Rattle.sip.specs.Grammar.{UriParts, Party, Identity, HoldsAny}
+use Rattle.sip.specs.GrammarPromises.{Withholding}
+
+-- the field with another value; its name and the blanks before the colon stay
+abbrev pub withValue : Field → List ℕ → Field
+withValue f v = record { name = f .name; gap = f .gap; value = v }
+
+-- The fields of the two messages, one to one and in order: "equal except for the values of P-Asserted-Identity and the part of From outside
+-- its tag parameter"; "these two values are well formed with the same tag". From's two values have the URIs u and u′ and the one tag t;
+-- the two identities have the numbers n and n′. Nothing else of these values is compared: their display names, other parameters, line
+-- breaks and outer blanks are free, and so is how the tag is written (`tag` in any letter case, blanks around its `;` and `=`, its place
+-- among the parameters). Of fields with the same bytes nothing is asked.
+pub data OtherCaller : List Field → List Field → Type 0 where
+  no-fields : OtherCaller [] []
+  equal : {f : Field} {fs gs : List Field} → OtherCaller fs gs → OtherCaller (f ∷ fs) (f ∷ gs)
+  other-from :
+      {f : Field} {v t : List ℕ} {u u′ : UriParts} {fs gs : List Field} → numberOf (f .name) ≡ 3 → Party (canonical (f .value)) u (t ∷ [])
+      → Party (canonical v) u′ (t ∷ []) → OtherCaller fs gs → OtherCaller (f ∷ fs) (withValue f v ∷ gs)
+  other-identity :
+      {f : Field} {v n n′ : List ℕ} {fs gs : List Field} → numberOf (f .name) ≡ 15 → Identity (canonical (f .value)) n
+      → Identity (canonical v) n′ → OtherCaller fs gs → OtherCaller (f ∷ fs) (withValue f v ∷ gs)
+
+-- "Take two INVITEs .. both withheld, equal except for" these; "Both messages keep to 8,192 bytes and well-shaped fields". Each is the same
+-- start line, its fields, the empty line and the same bytes after it. They are withheld where one of the first one's fields is a Privacy
+-- that is not ignored and holds any of the three (CR 2); it is equal in both. How many fields they have is not asked: over 96 both are
+-- refused for that
+pub record TwoCallers (m m′ : List ℕ) : Type 0 where
+  pub line : RequestLine
+  pub version : List ℕ
+  pub fields : List Field
+  pub fields′ : List Field
+  pub rest : List ℕ
+  pub an-invite : line .method ≡ text "INVITE"
+  pub start-shaped : RequestShaped line version
+  pub all-shaped : AllShaped fields
+  pub all-shaped′ : AllShaped fields′
+  pub other-caller : OtherCaller fields fields′
+  pub first : m ≡ startBytes (request line) version ++ headerBytes fields rest
+  pub second : m′ ≡ startBytes (request line) version ++ headerBytes fields′ rest
+  pub within-bytes : length m ≤ 8192
+  pub within-bytes′ : length m′ ≤ 8192
+  pub is-withheld : HoldsAny (Withholding (messageColumn (request line) fields)) fields

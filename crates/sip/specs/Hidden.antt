@@ -1,0 +1,195 @@
+-- CR 5, worked pairs: two callers that are screened alike, and pairs that show why each premise is asked for.
+use mathlib.Core.Path.{_≡_}
+use mathlib.Core.List.{List, [], _∷_, _++_}
+use Prim.Native.Nat.{ℕ, zero, suc}
+use Prim.Native.String.{String}
+use lib.ListN.{drop}
+use Rattle.octets.specs.Classes.{text}
+use Rattle.sip.specs.Refusals.{refusal}
+use Rattle.sip.specs.Screen.{Screened, refusing, screened}
+use Rattle.sip.specs.Readings.{callingNumber}
+use Rattle.sip.specs.Callers.{TwoCallers}
+use Rattle.sip.specs.Starred.{linesOf, callWith, call, printed, blankBuffer, invite, hops, caller, identity, noBody}
+
+-- ---- document 01's call, and one with another number and a display name in both values
+
+abbrev otherFrom : List String
+otherFrom = "f: \"Doe, J\" <sip:+4930123456@relay.example>;tag=a1" ∷ []
+
+abbrev otherIdentity : String
+otherIdentity = "P-Asserted-Identity: \"Doe, J\" <sip:+4930123456@relay.example>"
+
+unfoldable pub otherCall : List ℕ
+otherCall = callWith invite hops otherFrom otherIdentity noBody
+
+-- they are two callers, and their bytes differ
+pub record OtherCall : Type 0 where
+  pub two-callers : TwoCallers call otherCall
+  pub bytes-differ : call ≡ otherCall → ⊥
+
+-- ---- a row: two messages and what they give
+
+-- two callers: on side 1 and with this buffer both give this
+pub record Alike (m m′ buffer : List ℕ) (gives : Screened) : Type 0 where
+  pub two-callers : TwoCallers m m′
+  pub bytes-differ : m ≡ m′ → ⊥
+  pub first-gives : screened m 1 buffer ≡ gives
+  pub second-gives : screened m′ 1 buffer ≡ gives
+
+-- on this side and with this buffer the first gives this and the second that, and the buffers differ
+pub record Apart (m m′ : List ℕ) (side : ℕ) (buffer : List ℕ) (gives gives′ : Screened) : Type 0 where
+  pub first-gives : screened m side buffer ≡ gives
+  pub second-gives : screened m′ side buffer ≡ gives′
+  pub buffers-differ : gives .buffer ≡ gives′ .buffer → ⊥
+
+-- two callers: with this trunk number they have these calling numbers, which differ
+pub record Numbered (m m′ trunk number number′ : List ℕ) : Type 0 where
+  pub two-callers : TwoCallers m m′
+  pub first-number : callingNumber m trunk ≡ number
+  pub second-number : callingNumber m′ trunk ≡ number′
+  pub numbers-differ : number ≡ number′ → ⊥
+
+pub data Pair : Type 0 where
+  alike : List ℕ → List ℕ → List ℕ → Screened → Pair
+  apart : List ℕ → List ℕ → ℕ → List ℕ → Screened → Screened → Pair
+  numbered : List ℕ → List ℕ → List ℕ → List ℕ → List ℕ → Pair
+
+abbrev pub PairHolds : Pair → Type 0
+PairHolds (alike m m′ buffer gives) = Alike m m′ buffer gives
+PairHolds (apart m m′ side buffer gives gives′) = Apart m m′ side buffer gives gives′
+PairHolds (numbered m m′ trunk number number′) = Numbered m m′ trunk number number′
+
+-- every row holds
+pub data PairsHold : List Pair → Type 0 where
+  no-pair : PairsHold []
+  pair : {p : Pair} {ps : List Pair} → PairHolds p → PairsHold ps → PairsHold (p ∷ ps)
+
+-- ---- what the rows are put together from
+
+-- the n bytes o go out, and the other bytes of the buffer stay
+abbrev sent : ℕ → List ℕ → ℕ → Screened
+sent n o room =
+    record { answer = record { reason = 0; reply = 0; detail = 0; missing = 0; length = n }; buffer = o ++ drop n (blankBuffer room) }
+
+abbrev untouched : ℕ → ℕ → ℕ → ℕ → ℕ → Screened
+untouched reason reply detail missing room = refusing (refusal reason reply detail missing) (blankBuffer room)
+
+-- what goes out of document 01's call where it is not masked, with these lines for From and P-Asserted-Identity
+unfoldable pub shown : String → String → List ℕ
+shown from asserted =
+    linesOf
+    (invite ∷ "Via: SIP/2.0/UDP relay.example;branch=z9hG4bK7" ∷ "Max-Forwards: 69" ∷ from ∷ "To: <sip:+33123456789@gw.example>"
+    ∷ "Call-ID: 9x@relay.example" ∷ "CSeq: 1 INVITE" ∷ "Contact: <sip:relay.example>" ∷ "Allow: INVITE, ACK, BYE" ∷ asserted ∷ "Privacy: id"
+    ∷ "Content-Length: 0" ∷ [])
+
+-- both calls with these lines for the start line, Max-Forwards and Content-Length are refused so
+abbrev bothRefused : String → String → String → ℕ → ℕ → ℕ → ℕ → Pair
+bothRefused line forwards cut reason reply detail missing =
+    alike (callWith line forwards caller identity cut) (callWith line forwards otherFrom otherIdentity cut) (blankBuffer 9216)
+    (untouched reason reply detail missing 9216)
+
+-- a shorter call with these lines for From, To and P-Asserted-Identity, and these after them
+unfoldable pub shortCall : List String → String → List String → List String → List ℕ
+shortCall from to asserted others =
+    linesOf
+    ("INVITE sip:112@gw.example SIP/2.0" ∷ "Via: x" ∷ "Max-Forwards: 9"
+    ∷ (from ++ (to ∷ "Call-ID: 8" ∷ "CSeq: 1 INVITE" ∷ "Contact: x" ∷ "Allow: " ∷ (asserted ++ others))))
+
+-- what goes out of it, with these lines for From and To
+unfoldable pub shortSent : String → String → List String → List ℕ
+shortSent from to others =
+    linesOf
+    ("INVITE sip:112@gw.example SIP/2.0" ∷ "Via: x" ∷ "Max-Forwards: 8" ∷ from ∷ to ∷ "Call-ID: 8" ∷ "CSeq: 1 INVITE" ∷ "Contact: x" ∷ "Allow: "
+    ∷ others)
+
+abbrev hidden : String
+hidden = "From: \"Anonymous\" <sip:anonymous@anonymous.invalid>;tag=x"
+
+abbrev untagged : String
+untagged = "To: <sip:112@gw.example>"
+
+abbrev tagged : String
+tagged = "To: <sip:112@gw.example>;tag=d4"
+
+abbrev ann : List String
+ann = "From: \"Ann\" <sip:+33187654321@h>;tag=x" ∷ []
+
+abbrev bob : List String
+bob = "From: Bob B. <tel:+4930123456>;q;TAG\t= x" ∷ []
+
+abbrev annsIdentity : List String
+annsIdentity = "P-Asserted-Identity: \"Ann\" <sip:+33187654321@h>" ∷ []
+
+abbrev bobsIdentity : List String
+bobsIdentity = "P-Asserted-Identity: tel:+4930123456" ∷ []
+
+-- both shorter calls with these From fields, these identities and these fields after the others are refused so
+abbrev shortRefused : List String → List String → List String → List String → List String → ℕ → ℕ → ℕ → ℕ → Pair
+shortRefused from from′ asserted asserted′ others reason reply detail missing =
+    alike (shortCall from untagged asserted ("Privacy: id" ∷ others)) (shortCall from′ untagged asserted′ ("Privacy: id" ∷ others))
+    (blankBuffer 9216) (untouched reason reply detail missing 9216)
+
+-- the shorter calls on side 1: the first goes out masked, and the second gives that
+abbrev maskedBut : List String → List String → Screened → Pair
+maskedBut from asserted gives =
+    apart (shortCall ann untagged annsIdentity ("Privacy: id" ∷ [])) (shortCall from untagged asserted ("Privacy: id" ∷ [])) 1
+    (blankBuffer 9216) (sent 209 (shortSent hidden untagged ("Privacy: id" ∷ [])) 9216) gives
+
+unfoldable pub manyFields : ℕ → List String
+manyFields zero = []
+manyFields (suc n) = "a:" ∷ manyFields n
+
+unfoldable pub pairs : List Pair
+pairs =
+    -- document 01's call and the other: with room, with just enough, and with a byte too little, where 16 needs the same length
+    alike call otherCall (blankBuffer 9216) (sent 337 (printed invite) 9216)
+    ∷ alike call otherCall (blankBuffer 337) (sent 337 (printed invite) 337)
+    ∷ alike call otherCall (blankBuffer 336) (untouched 16 500 337 0 336)
+    -- "both withheld": by each of the three
+    ∷ alike (shortCall ann untagged annsIdentity ("Privacy: none; User" ∷ [])) (shortCall bob untagged bobsIdentity ("Privacy: none; User" ∷ []))
+    (blankBuffer 9216) (sent 217 (shortSent hidden untagged ("Privacy: none; User" ∷ [])) 9216)
+    -- folds and blanks, tags in the display name, in the URI and in another parameter, a number of seven digits against one of fifteen
+    ∷ alike
+    (shortCall ("From: \"b;tag=y\" <sip:h:1;tag=z>;tag=x" ∷ []) untagged ("P-Asserted-Identity: <sip:+1234567@h;p=q>" ∷ [])
+    ("Privacy: header" ∷ []))
+    (shortCall ("From:\r\n\tsip:c@d\r\n ;p=\"tag=y\" ; Tag\t=\r\n x;q " ∷ []) untagged
+    ("P-Asserted-Identity:\"<\\\">\"\r\n \r\n <tel:+123456789012345>\t" ∷ []) ("Privacy: header" ∷ []))
+    (blankBuffer 9216) (sent 213 (shortSent hidden untagged ("Privacy: header" ∷ [])) 9216)
+    -- an INVITE whose To has a tag, without P-Asserted-Identity in both
+    ∷ alike (shortCall ("From: \"A\" <sip:a@b>;tag=x" ∷ []) tagged [] ("Privacy: id" ∷ []))
+    (shortCall ("From:\r\n sip:c@d ;p=q;TAG = x" ∷ []) tagged [] ("Privacy: id" ∷ [])) (blankBuffer 9216)
+    (sent 216 (shortSent hidden tagged ("Privacy: id" ∷ [])) 9216)
+    -- refusals: more than 96 fields, another scheme, no URI, two From, two P-Asserted-Identity, two Privacy, another field malformed,
+    -- Content-Length too large, no P-Asserted-Identity in both, Max-Forwards 0, a required tag that we lack, no called number
+    ∷ shortRefused ann bob annsIdentity bobsIdentity (manyFields 87) 5 0 0 0
+    ∷ bothRefused "INVITE http:x SIP/2.0" hops noBody 7 416 0 0
+    ∷ bothRefused "INVITE sip:+33123456789@ SIP/2.0" hops noBody 8 400 0 0
+    ∷ shortRefused (ann ++ ann) (bob ++ bob) annsIdentity bobsIdentity [] 9 400 3 0
+    ∷ shortRefused ann bob (annsIdentity ++ bobsIdentity) (bobsIdentity ++ annsIdentity) [] 9 400 15 0
+    ∷ shortRefused ann bob annsIdentity bobsIdentity ("Privacy: none" ∷ []) 9 400 16 0
+    ∷ shortRefused ann bob annsIdentity bobsIdentity ("Require: ;" ∷ []) 10 400 14 0
+    ∷ bothRefused invite hops "l: 1" 11 400 0 0
+    ∷ shortRefused ann bob [] [] [] 12 400 15 1
+    ∷ bothRefused invite "Max-Forwards: 0" noBody 13 483 0 0
+    ∷ shortRefused ann bob annsIdentity bobsIdentity ("Require: timer, foo" ∷ []) 14 420 2 0
+    ∷ bothRefused "INVITE sip:gw.example SIP/2.0" hops noBody 15 484 0 0
+    -- on side 0 the same two calls differ
+    ∷ apart call otherCall 0 (blankBuffer 9216)
+    (sent 379 (shown "From: <sip:+33187654321@relay.example>;tag=a1" "P-Asserted-Identity: <sip:+33187654321@relay.example>") 9216)
+    (sent 395
+    (shown "From: \"Doe, J\" <sip:+4930123456@relay.example>;tag=a1" "P-Asserted-Identity: \"Doe, J\" <sip:+4930123456@relay.example>")
+    9216)
+    -- and so do two callers that are not withheld
+    ∷ apart (shortCall ann untagged annsIdentity ("Privacy: none" ∷ [])) (shortCall bob untagged bobsIdentity ("Privacy: none" ∷ [])) 1
+    (blankBuffer 9216)
+    (sent 241 (shortSent "From: \"Ann\" <sip:+33187654321@h>;tag=x" untagged (annsIdentity ++ ("Privacy: none" ∷ []))) 9216)
+    (sent 232 (shortSent "From: Bob B. <tel:+4930123456>;q;TAG\t= x" untagged (bobsIdentity ++ ("Privacy: none" ∷ []))) 9216)
+    -- another tag; From malformed in the second, P-Asserted-Identity malformed there, and not there
+    ∷ maskedBut ("From: \"Ann\" <sip:+33187654321@h>;tag=X" ∷ []) annsIdentity
+    (sent 209 (shortSent "From: \"Anonymous\" <sip:anonymous@anonymous.invalid>;tag=X" untagged ("Privacy: id" ∷ [])) 9216)
+    ∷ maskedBut ("From: \"Ann\" <sip:+33187654321@>;tag=x" ∷ []) annsIdentity (untouched 10 400 3 0 9216)
+    ∷ maskedBut ann ("P-Asserted-Identity: tel:+493012" ∷ []) (untouched 10 400 15 0 9216)
+    ∷ maskedBut ann [] (untouched 12 400 15 1 9216)
+    -- "The calling number and raw readings stay outside this."
+    ∷ numbered call otherCall (text "+33111111111") (text "+33187654321") (text "+4930123456")
+    ∷ []
