@@ -3,6 +3,7 @@
 //! `second record` writes them, `second cases` says their answers. A case is one byte for the side, two bytes for the room and two for
 //! the length of the message (high byte first), then the message. `second/regenerate` stores both in crates/vectors of the repository.
 
+pub mod callers;
 mod columns;
 mod edges;
 pub mod history;
@@ -47,7 +48,7 @@ pub fn cases() -> Vec<Case> {
     let mut all: Vec<Case> = Vec::new();
     let mut seen = std::collections::HashSet::new();
     let from_others = [outside::cases(), outside_responses::cases(), reviewed::cases()];
-    let own = [columns::cases(), edges::cases(), sizes::cases(), strewn::cases(), responses::cases(), privacy::cases()];
+    let own = [columns::cases(), edges::cases(), sizes::cases(), strewn::cases(), responses::cases(), privacy::cases(), callers::cases()];
     for group in from_others.into_iter().chain(own) {
         for case in group {
             assert!(case.message.len() <= MOST && case.room <= ROOM, "a recorded case is too long");

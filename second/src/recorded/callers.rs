@@ -1,0 +1,119 @@
+//! The digits cannot show (CR 5): withheld INVITEs in pairs that are equal but for the values of From, with one tag, and of the identity.
+//! Display names, URIs, other parameters, blanks and folds in every form, the shortest and the longest tag, sizes at their edges, and every
+//! refusal that such two can have.
+
+use super::sizes::filled;
+use super::{Case, ROOM};
+use crate::drafts::Draft;
+use crate::screen;
+
+/// From with the tag q7.
+const FROMS: [&str; 20] = [
+    "<sip:+331876543@a>;tag=q7", "<sip:+331111111@a>;tag=q7", "sip:+331876543@a;tag=q7", "sip:h ; TAG = q7", "tel:112;x;tag=q7", "<TEL:+331876543;phone-context=x>;tag=q7;y=z",
+    "\"Alice\" <sip:a@h>;tag=q7", "Alice B\t<sip:a@h>;tag=q7", "\"Doe, J\" <sip:a@h>;tag=q7", "\"\\\"\\\\;tag=no <sip:x>\"<sip:h>;tag=q7", "<sip:a@h:5060;tag=in;user=phone>;tag=q7",
+    "sip:a;tag=in@h;tag=q7", "<sip:h>;x=\"tag=no;tag=no\";tAg=q7", "<sip:h>;xtag=1;tag=q7;tagx=2;ta", "<sip:h>\t;\ttag\t=\tq7\t;\ta\t=\t\"\"", "\r\n <sip:h>\r\n ;\r\n\ttag\r\n =\r\n q7\r\n ",
+    "\"A\r\n\t\r\n B\"\r\n <sip:h>;tag=q7;z", " \t sip:%41&=+$,;?/-_.!~*'()@h:65535;Tag=q7 \t ", "-.!%*_+`'~ <SIP:1.2.3.4;;=%41[]/:&+$>;tag=q7;!", "tag <sip:tag;tag=tag>;taG=q7",
+];
+
+const IDENTITIES: [&str; 14] = [
+    "<sip:+331876543@a>", "<sip:+331111111@a>", "sip:+331876543@a:5060", "tel:+331876543", "TEL:+123456789012345", "<tel:+1234567>", "\"Alice\" <sip:+331876543@a>", "Alice B\t<tel:+331876543>",
+    "\"Doe, J <tel:+1>;tag=no\" <sip:+331876543@a;user=phone;tag=in>", "\"\\\"\\\\\"<sip:+331876543@a>", "\r\n <sip:+331876543@1.2.3.4>\r\n ", "\"A\r\n\t\r\n B\"\r\n <tel:+331876543>",
+    " \tsIp:+999999999999999@- \t", "-.!%*_+`'~<sip:+331876543@h:00001;>",
+];
+
+pub fn cases() -> Vec<Case> {
+    let mut all: Vec<Case> = [accepted(), longest()].concat().into_iter().flat_map(tight).collect();
+    all.extend(refused().into_iter().flatten().map(|message| Case::new(1, message)));
+    // Where nobody is hidden, such two differ.
+    let shown = accepted().into_iter().step_by(6).flatten();
+    all.extend(shown.map(|message| Case::new(0, message)));
+    all
+}
+
+/// All pairs: both messages of each have the same answer on side 1.
+pub fn pairs() -> Vec<[Vec<u8>; 2]> {
+    [accepted(), longest(), refused()].concat()
+}
+
+/// Both messages with the room of the program, with as many bytes as go out, and with one less.
+fn tight(pair: [Vec<u8>; 2]) -> Vec<Case> {
+    let need = screen(&pair[0], 1, &mut vec![0; usize::from(ROOM)]).numbers()[4] as u16;
+    let rooms = [ROOM, need, need - 1];
+    rooms.into_iter().flat_map(|room| pair.clone().map(|message| Case { side: 1, room, message })).collect()
+}
+
+/// An initial INVITE and two later ones, with an identity and without.
+fn invites() -> [Draft; 3] {
+    [Draft::least(0).with(16, b"id"), Draft::full(1).with(16, b"none;User"), Draft::least(1).with(16, b"HEADER")]
+}
+
+fn called_by(draft: &Draft, from: &str, identity: &str) -> Vec<u8> {
+    draft.with(3, from.as_bytes()).with(15, identity.as_bytes()).bytes()
+}
+
+/// Each value beside the next in its list, alone and both together, and the tag at its shortest and longest.
+fn accepted() -> Vec<[Vec<u8>; 2]> {
+    let [initial, later, without] = invites();
+    let mut all = Vec::new();
+    for two in FROMS.windows(2) {
+        all.push([two[0], two[1]].map(|from| called_by(&initial, from, IDENTITIES[0])));
+        all.push([two[0], two[1]].map(|from| without.with(3, from.as_bytes()).bytes()));
+    }
+    for two in IDENTITIES.windows(2) {
+        all.push([two[0], two[1]].map(|identity| called_by(&initial, FROMS[0], identity)));
+    }
+    for (from, identity) in FROMS.chunks(2).zip(IDENTITIES.chunks(2)) {
+        all.push([0, 1].map(|place| called_by(&later, from[place], identity[place])));
+    }
+    for tag in ["1".to_string(), "-.!%*_+`'~".to_string(), "t".repeat(64)] {
+        let tagged = |from: &str| initial.with(3, from.replace("q7", &tag).as_bytes()).bytes();
+        all.push([tagged(FROMS[3]), tagged(FROMS[9])]);
+    }
+    all
+}
+
+/// As long as a message may be, by a display name, by a tail, by folds or by parameters, beside a short one and beside each other.
+fn longest() -> Vec<[Vec<u8>; 2]> {
+    let initial = &invites()[0];
+    let fill = |front: &str, piece: &str, back: &str| {
+        let short = initial.with(3, format!("{front}{back}").as_bytes()).bytes().len();
+        let padding = "a".repeat((8192 - short) % piece.len());
+        initial.with(3, format!("{front}{}{padding}{back}", piece.repeat((8192 - short) / piece.len())).as_bytes()).bytes()
+    };
+    let short = initial.with(3, FROMS[0].as_bytes()).bytes();
+    let long = [fill("\"", "\\\"", "\" <sip:h>;tag=q7"), fill("<sip:h;", "%41", ">;tag=q7"), fill("x", "\r\n ", "<sip:h>;tag=q7"), fill("<sip:h>;tag=q7;", "a;", "b")];
+    let [one, two, three, four] = long;
+    vec![[short, one.clone()], [one, two], [three, four]]
+}
+
+/// With every fault that leaves both values well formed.
+fn refused() -> Vec<[Vec<u8>; 2]> {
+    let [initial, later, without] = invites();
+    let long = "\"Alice, or \\\"A\\\"\"\r\n <sip:a@h;tag=in>;x=\"tag=no\"\r\n ;TAG = q7";
+    let with = |fault: &dyn Fn(&Draft) -> Draft, draft: &Draft| {
+        let callers = [(FROMS[0], IDENTITIES[0]), (long, IDENTITIES[11])];
+        callers.map(|(from, identity)| fault(&draft.with(3, from.as_bytes()).with(15, identity.as_bytes())).bytes())
+    };
+    let faults: [&dyn Fn(&Draft) -> Draft; 16] = [
+        &|draft| filled(draft, "k", b"", 97),
+        &|draft| draft.to(b"http://h"),
+        &|draft| draft.to(b"sip:"),
+        &|draft| draft.and("f", b"sip:h;tag=q7"),
+        &|draft| draft.and("p-asserted-identity", b"tel:+1234567"),
+        &|draft| draft.and("privacy", b"none"),
+        &|draft| draft.with(2, b"256"),
+        &|draft| draft.with(4, b"<sip:h"),
+        &|draft| draft.with(5, b"a b"),
+        &|draft| draft.with(8, b"1"),
+        &|draft| draft.without(1),
+        &|draft| draft.without(5).without(7),
+        &|draft| draft.without(3),
+        &|draft| draft.with(2, b"000"),
+        &|draft| draft.and("Require", b"timer, x"),
+        &|draft| draft.to(b"sip:+331234@g"),
+    ];
+    let mut all: Vec<[Vec<u8>; 2]> = faults.iter().map(|fault| with(fault, &initial)).collect();
+    all.extend([3, 7, 9, 13].map(|place| with(faults[place], &later)));
+    all.push([FROMS[0], long].map(|from| without.with(3, from.as_bytes()).to(b"tel:").bytes()));
+    all
+}
