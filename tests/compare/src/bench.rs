@@ -1,5 +1,6 @@
 //! The library and the second implementation, side by side.
 
+use crate::callers::Callers;
 use crate::counts::{Call, Counts, Kind, Met};
 use crate::differences::{escaped, same, same_bytes, within};
 use crate::guarded::{Against, Guarded};
@@ -110,6 +111,9 @@ impl Bench {
         self.calling(dice, &message, lent.against);
         self.replay.one(&mut self.counts, dice, &message, lent.side, lent.against);
         causes::one(&mut self.counts, dice);
+        if dice.one_in(12) {
+            self.two_callers(dice);
+        }
     }
 
     /// The bytes of the draft, damaged or not; some are first compared by demand 3.
@@ -165,9 +169,14 @@ impl Bench {
         self.counts.met(Met::ShownOther, !masked && asked.has_one_byte_other());
     }
 
-    /// A side, and a room that is enough, exact, one byte short, or anything.
+    /// Any side, mostly one of the two.
     fn lent(&mut self, dice: &mut Dice, message: &[u8]) -> Lent {
         let side = if dice.one_in(100) { *dice.pick(&[2, 3, 255, 256, 257, 1 << 32, (1 << 32) + 1, u64::MAX]) } else { dice.below(2) as u64 };
+        self.lent_on(dice, side, message)
+    }
+
+    /// A room that is enough, exact, one byte short, or anything.
+    fn lent_on(&mut self, dice: &mut Dice, side: u64, message: &[u8]) -> Lent {
         let against = if dice.one_in(4) { Against::Start } else { Against::End };
         let need = || second::screen(message, side, &mut [0; MOST_ROOM]).numbers()[4] as usize;
         let room = match dice.below(8) {
@@ -196,7 +205,7 @@ impl Bench {
         numbers
     }
 
-    /// Harmless fields and other names: the same numbers and the same buffer, library against library, and the second one too.
+    /// Harmless fields and other names: the same numbers and the same buffer.
     fn demand_3(&mut self, dice: &mut Dice, draft: &Draft, message: &[u8]) {
         let changed = messages::changed(dice, draft).bytes();
         // A fault can leave an empty line inside a drafted field; what comes after it is body, and no longer a field to be renamed.
@@ -206,12 +215,45 @@ impl Bench {
         }
         self.counts.call(if Kind::of(draft) == Kind::Request { Call::ChangedRequest } else { Call::ChangedResponse });
         let lent = self.lent(dice, message);
+        self.same_answer("names and extra fields changed", message, &changed, lent);
+    }
+
+    /// Two withheld callers (CR 5): the same numbers and the same buffer. Where nobody hides them, the buffers mostly differ.
+    fn two_callers(&mut self, dice: &mut Dice) {
+        let pair = messages::two_callers(dice);
+        let Some(callers) = Callers::of(&pair[0], &pair[1]) else { return };
+        let [one, other] = [pair[0].bytes(), pair[1].bytes()];
+        let lent = self.lent_on(dice, 1, &one);
+        let numbers = self.same_answer("another caller who is withheld", &one, &other, lent);
+        self.counts.call(Call::TwoCallers);
+        self.counts.callers(numbers[0]);
+        callers.count(&mut self.counts, numbers, lent.room);
+        if numbers[0] == 0 {
+            let lent = Lent { room: 9216, ..lent };
+            let differ = self.both_accepted_and_differ(&one, &other, Lent { side: 0, ..lent });
+            self.counts.met(Met::CallersOnSide0, differ);
+            let [one, other] = pair.map(|draft| messages::shown(draft).bytes());
+            let differ = self.both_accepted_and_differ(&one, &other, lent);
+            self.counts.met(Met::CallersShown, differ);
+        }
+    }
+
+    /// The numbers and the buffer of both messages are the same, library against library, and the second one too. The numbers.
+    fn same_answer(&mut self, what: &str, message: &[u8], changed: &[u8], lent: Lent) -> [u64; 5] {
         let numbers = self.screen(message, lent);
         let out = self.out.part(lent.room, lent.against).to_vec();
-        let other = self.screen(&changed, lent);
-        let what = format!("{lent:?}, changed from:\n{}", escaped(message));
-        same("screen, names and extra fields changed", &other, &numbers, &changed, &what);
-        same_bytes("screen, names and extra fields changed, the buffer", self.out.part(lent.room, lent.against), &out, &changed, &what);
+        let other = self.screen(changed, lent);
+        let from = format!("{lent:?}, changed from:\n{}", escaped(message));
+        same(&format!("screen, {what}"), &other, &numbers, changed, &from);
+        same_bytes(&format!("screen, {what}, the buffer"), self.out.part(lent.room, lent.against), &out, changed, &from);
+        numbers
+    }
+
+    fn both_accepted_and_differ(&mut self, message: &[u8], changed: &[u8], lent: Lent) -> bool {
+        let accepted = self.screen(message, lent)[0] == 0;
+        let out = self.out.part(lent.room, lent.against).to_vec();
+        let accepted = self.screen(changed, lent)[0] == 0 && accepted;
+        accepted && self.out.part(lent.room, lent.against) != out
     }
 
     fn readings(&mut self, dice: &mut Dice, message: &[u8], against: Against) {

@@ -6,12 +6,13 @@ use second::start::Start;
 use second::{judge, lines};
 use std::process::exit;
 
-/// What a message was drawn as.
+/// What a message was drawn as; two callers (CR 5) are counted once.
 #[derive(Clone, Copy, Debug, PartialEq)]
 pub enum Kind {
     Request,
     Response,
     Noise,
+    Callers,
 }
 
 impl Kind {
@@ -24,10 +25,12 @@ impl Kind {
 }
 
 const REASONS: usize = 18;
+const KINDS: usize = 4;
 
 /// The reasons that each kind must meet. At 3 and before it there is no kind yet; it is that of what was drawn.
 const OF_REQUESTS: [usize; 17] = [0, 1, 2, 3, 4, 5, 6, 7, 8, 9, 10, 11, 12, 13, 14, 15, 16];
 const OF_RESPONSES: [usize; 13] = [0, 1, 2, 3, 4, 5, 6, 9, 10, 11, 12, 16, 17];
+const OF_CALLERS: [usize; 12] = [0, 5, 7, 8, 9, 10, 11, 12, 13, 14, 15, 16];
 
 macro_rules! counted {
     ($name:ident, $names:ident: $($variant:ident = $text:literal),+ $(,)?) => {
@@ -49,6 +52,7 @@ counted!(Call, CALLS:
     CauseOfStatus = "cause_of_status",
     ChangedRequest = "screen, names and extra fields of a request changed",
     ChangedResponse = "screen, names and extra fields of a response changed",
+    TwoCallers = "screen, two withheld callers",
     Recorded = "screen, recorded cases",
     OddByte = "screen, an odd byte at every place",
 );
@@ -76,6 +80,38 @@ counted!(Met, METS:
     TrunkOfResponse = "trunk number of a response that has an identity",
     EndsInName = "ends in a name or behind it",
     LongPhrase = "accepted response with a phrase of over 2,000 bytes",
+    CallersInitial = "two callers: accepted, To without a tag",
+    CallersLater = "two callers: accepted, To with a tag",
+    CallersOneLength = "two callers: accepted, messages of one length",
+    CallersFarLonger = "two callers: accepted, one message over 2,000 bytes longer",
+    CallersFull = "two callers: accepted, a message of 8,192 bytes",
+    CallersBothFull = "two callers: accepted, both of 8,192 bytes",
+    CallersMostFields = "two callers: accepted, 96 fields",
+    CallersTagOf1 = "two callers: accepted, a tag of 1 byte",
+    CallersTagOf64 = "two callers: accepted, a tag of 64 bytes",
+    CallersTagElsewhere = "two callers: accepted, the tag last in one From alone",
+    CallersTagSpelled = "two callers: accepted, the tag's name in another letter case",
+    CallersTagInUri = "two callers: accepted, tag= in the URI of the first From alone",
+    CallersTagInQuotes = "two callers: accepted, tag= in quotes in the first From alone",
+    CallersBare = "two callers: accepted, From without brackets and with them",
+    CallersSchemes = "two callers: accepted, From of a sip and of a tel URI",
+    CallersFold = "two callers: accepted, the first From alone folded",
+    CallersLong = "two callers: accepted, a From of over 2,000 bytes and one of under 100",
+    CallersFromAlone = "two callers: accepted, another From alone",
+    CallersIdentityAlone = "two callers: accepted, another number in the identity alone",
+    CallersIdentitySchemes = "two callers: accepted, a sip and a tel identity",
+    CallersIdentityFold = "two callers: accepted, the first identity alone folded",
+    CallersIdentityLong = "two callers: accepted, an identity of over 2,000 bytes and one of under 100",
+    CallersNoIdentity = "two callers: accepted, no identity",
+    CallersExact = "two callers: accepted, no byte of room to spare",
+    CallersOneByteShort = "two callers: refused, one byte of room short",
+    CallersNoRoom = "two callers: refused, no room",
+    CallersOneFieldMore = "two callers: refused, 97 fields",
+    CallersSecondFrom = "two callers: refused for a second From",
+    CallersSecondIdentity = "two callers: refused for a second identity",
+    CallersSecondPrivacy = "two callers: refused for a second Privacy",
+    CallersOnSide0 = "two callers: accepted on side 0, where they differ",
+    CallersShown = "two callers: accepted with a Privacy that hides nobody, where they differ",
     TakenRelay = "take_record: of a relay caller, accepted",
     TakenRelayRefused = "take_record: of a relay caller, refused",
     TakenNear = "take_record: not of one, although X-Relay-Mod stands in it",
@@ -100,7 +136,7 @@ counted!(Met, METS:
 );
 
 pub struct Counts {
-    reasons: [[u64; REASONS]; 3],
+    reasons: [[u64; REASONS]; KINDS],
     accepted: [u64; COLUMNS.len()],
     calls: Vec<u64>,
     mets: Vec<u64>,
@@ -108,7 +144,7 @@ pub struct Counts {
 
 impl Counts {
     pub fn new() -> Counts {
-        Counts { reasons: [[0; REASONS]; 3], accepted: [0; COLUMNS.len()], calls: vec![0; CALLS.len()], mets: vec![0; METS.len()] }
+        Counts { reasons: [[0; REASONS]; KINDS], accepted: [0; COLUMNS.len()], calls: vec![0; CALLS.len()], mets: vec![0; METS.len()] }
     }
 
     pub fn call(&mut self, call: Call) {
@@ -133,16 +169,21 @@ impl Counts {
         }
     }
 
+    /// Two callers and the reason of both.
+    pub fn callers(&mut self, reason: u64) {
+        self.reasons[Kind::Callers as usize][reason as usize] += 1;
+    }
+
     /// Prints all; from 100,000 messages on, what was never met fails.
     pub fn report(&self, seed: u64, count: u64) {
         println!("no difference: seed {seed}, {count} messages");
         for (name, calls) in CALLS.iter().zip(&self.calls) {
             println!("{calls:>12}  {name}");
         }
-        println!("      reason    requests   responses       noise");
+        println!("      reason    requests   responses       noise two callers");
         for reason in 0..REASONS {
-            let [requests, responses, noise] = [0, 1, 2].map(|kind| self.reasons[kind][reason]);
-            println!("{reason:>12}{requests:>12}{responses:>12}{noise:>12}");
+            let [requests, responses, noise, callers] = [0, 1, 2, 3].map(|kind| self.reasons[kind][reason]);
+            println!("{reason:>12}{requests:>12}{responses:>12}{noise:>12}{callers:>12}");
         }
         for (column, messages) in COLUMNS.iter().zip(&self.accepted).filter(|(&column, _)| column != Column::Re) {
             println!("{messages:>12}  accepted in column {column:?}");
@@ -161,7 +202,7 @@ impl Counts {
         let missed = |kind: Kind, due: &[usize]| -> Vec<String> {
             due.iter().filter(|&&reason| self.reasons[kind as usize][reason] == 0).map(|reason| format!("reason {reason} of a {kind:?}")).collect()
         };
-        let mut never = [missed(Kind::Request, &OF_REQUESTS), missed(Kind::Response, &OF_RESPONSES)].concat();
+        let mut never = [missed(Kind::Request, &OF_REQUESTS), missed(Kind::Response, &OF_RESPONSES), missed(Kind::Callers, &OF_CALLERS)].concat();
         // Both columns of INVITE are counted as the first.
         let columns = COLUMNS.iter().zip(&self.accepted).filter(|(&column, &messages)| column != Column::Re && messages == 0);
         never.extend(columns.map(|(column, _)| format!("column {column:?}")));

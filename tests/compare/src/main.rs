@@ -1,6 +1,7 @@
 //! Compares every function of libmishkolar.a with the second implementation. See `run` beside this folder.
 
 mod bench;
+mod callers;
 mod causes;
 mod counts;
 mod differences;

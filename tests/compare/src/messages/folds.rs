@@ -60,7 +60,7 @@ pub fn withhold(dice: &mut Dice, draft: &mut Draft) {
 }
 
 /// A Privacy that holds one of the ways to hide, mostly beside others and folded; some are long.
-fn withholding(dice: &mut Dice) -> Vec<u8> {
+pub fn withholding(dice: &mut Dice) -> Vec<u8> {
     let mark = [fold(dice), b";".to_vec(), fold(dice)].concat();
     match dice.below(5) {
         0 => way(dice),

@@ -1,6 +1,7 @@
 //! Messages drawn at random so that every rule is reached, accepted ones too: good parts first, then at most a few faults, then maybe
 //! damaged bytes. Half of them are requests, half are responses.
 
+mod callers;
 mod change;
 mod damage;
 mod faults;
@@ -10,6 +11,7 @@ mod relay;
 pub mod texts;
 mod values;
 
+pub use callers::{shown, two_callers};
 pub use change::changed;
 pub use damage::{cut_in_a_name, damage, noise};
 pub use odd::{carrying, phrased, CARRIERS, ODD_BYTES};
@@ -23,6 +25,12 @@ use values::{called, pick, privacy, uri, value};
 pub fn draft(dice: &mut Dice) -> Draft {
     let columns = if dice.one_in(2) { REQUESTS } else { RESPONSES };
     let column = columns.start + dice.below(columns.len());
+    let draft = plain(dice, column);
+    with_faults(dice, draft, column)
+}
+
+/// A message of the column, whose parts are good or nearly.
+fn plain(dice: &mut Dice, column: usize) -> Draft {
     let mut draft = if REQUESTS.contains(&column) { request_line(dice, column) } else { status_line(dice, column) };
     all_fields(dice, &mut draft, column);
     body(dice, &mut draft);
@@ -30,6 +38,11 @@ pub fn draft(dice: &mut Dice) -> Draft {
     if dice.one_in(3) {
         relay::strew(dice, &mut draft);
     }
+    draft
+}
+
+/// The same with at most a few faults.
+fn with_faults(dice: &mut Dice, mut draft: Draft, column: usize) -> Draft {
     for _ in 0..if dice.one_in(2) { 1 + dice.below(2) } else { 0 } {
         if REQUESTS.contains(&column) {
             faults::of_request(dice, &mut draft, column);

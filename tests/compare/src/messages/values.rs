@@ -110,7 +110,7 @@ fn near_way(dice: &mut Dice) -> Vec<u8> {
     token
 }
 
-fn digits(dice: &mut Dice, length: usize) -> String {
+pub fn digits(dice: &mut Dice, length: usize) -> String {
     (0..length).map(|_| char::from(b'0' + dice.below(10) as u8)).collect()
 }
 
