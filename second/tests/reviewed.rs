@@ -25,10 +25,27 @@ fn every_call_is_answered_as_written() {
 fn every_reason_is_among_them() {
     let reasons: BTreeSet<u64> = calls().iter().map(|call| call.answer[0]).collect();
     assert_eq!(reasons, (0..=17).collect());
-    assert_eq!(files().map(|calls| calls.len()), [96, 124, 81]);
+    assert_eq!(files().map(|calls| calls.len()), [96, 124, 81, 80]);
     let responses = calls().into_iter().filter(|call| call.case.message.starts_with(b"SIP/2.0 "));
     let reasons: BTreeSet<u64> = responses.map(|call| call.answer[0]).collect();
     assert_eq!(reasons, BTreeSet::from([0, 1, 2, 3, 4, 5, 6, 9, 10, 11, 12, 16, 17]));
+}
+
+/// CR 5: the answers of a pair inside are the same, and those of a pair outside are not, as its writer says.
+#[test]
+fn a_pair_has_one_answer_exactly_if_it_is_inside() {
+    let [.., callers] = files();
+    for (number, pair) in callers.chunks(2).enumerate() {
+        let inside = pair[0].name.starts_with(&format!("pair {:02} inside first", number + 1));
+        let kind = if inside { "inside" } else { "outside" };
+        for (call, place) in pair.iter().zip(["first", "second"]) {
+            assert!(call.name.starts_with(&format!("pair {:02} {kind} {place}", number + 1)), "{}", call.name);
+        }
+        assert_eq!((pair[0].case.side, pair[0].case.room), (pair[1].case.side, pair[1].case.room), "{}", pair[0].name);
+        assert_ne!(pair[0].case.message, pair[1].case.message, "{}", pair[0].name);
+        let answers = pair.iter().map(|call| (call.answer, &call.output)).collect::<BTreeSet<_>>();
+        assert_eq!(answers.len(), if inside { 1 } else { 2 }, "{}", pair[0].name);
+    }
 }
 
 /// The cause of each line and its answer: "CAUSE STATUS ROW REFUSAL, in decimal, parted by single spaces", "Lines with # are notes".

@@ -2,26 +2,27 @@
 -- that they are well formed, and From's tag.
 use mathlib.Core.Path.{_≡_, refl, sym, ap, _∙_}
 use mathlib.Core.Bool.{Bool, true, false, cond}
-use mathlib.Core.List.{List, [], _∷_}
+use mathlib.Core.List.{List, [], _∷_, _++_}
 use mathlib.Core.Option.{Option, none, some}
 use Prim.Native.Nat.{ℕ, suc}
 use lib.Dec.{eqb, leb}
-use lib.ListN.{length}
+use lib.ListN.{length, take}
 use Rattle.sip.specs.declared.Column.{Column}
-use Rattle.sip.specs.Lines.{RequestLine, Start, request, Field, Header, canonical}
+use Rattle.sip.specs.Lines.{RequestLine, Start, request, startBytes, startSize, Field, Header, canonical}
 use Rattle.sip.specs.Profile.{numberOf, columnOf, ignored, numbers}
-use Rattle.sip.specs.Values.{isEmpty, isFrom, tagOf, isIdentity, identity}
+use Rattle.sip.specs.Values.{isEmpty, isFrom, tagOf, isIdentity}
 use Rattle.sip.specs.Refusals.{Answer, Entry, kept, valueOf, occurs, toTagged, withheld, contentLength, bodyOf, firstRepeat, reason9}
 use Rattle.sip.specs.Refusals.{wellFormed, firstMalformed, reason10, exceeds, reason11, missingOf, reason12, noHops, reason13, allTags}
 use Rattle.sip.specs.Refusals.{firstLacking, reason14, firstOf, reasons, passed, accepted, read, lines, judgedRequest, keptOf, judgement}
 use Rattle.sip.specs.Output.{sentValue, fieldLines, output}
 use Rattle.sip.specs.Screen.{masks, delivered, concluded, screened}
-use Rattle.sip.specs.Change.{RequestShaped}
-use Rattle.sip.specs.Callers.{OtherCaller, no-fields, equal, other-from, other-identity, TwoCallers}
+use Rattle.sip.specs.Change.{RequestShaped, headerBytes}
+use Rattle.sip.specs.Callers.{OtherCaller, no-fields, equal, other-from, other-identity}
 use Rattle.sip.specs.Grammar.{HoldsAny, here, later}
 use Rattle.sip.specs.GrammarPromises.{Withholding}
-use Rattle.sip.specs.Promises.{ReadAs, DigitsHidden, EitherWay, CallerReadAs, EveryWithheld, CallersRead, NoOtherCallers}
+use Rattle.sip.specs.Promises.{DigitsHidden, EitherWay, EveryPair, CallersRead, NoOtherPair}
 use Rattle.sip.proofs.Tests.{never}
+use Rattle.sip.proofs.Starts.{request-taken}
 use Rattle.sip.proofs.Change.{lines-shaped, everything}
 use Rattle.sip.proofs.Grammar.Promises.{from-read, identity-read}
 use Rattle.sip.proofs.Grammar.Withheld.{withheld-found, withheld-read}
@@ -201,8 +202,8 @@ same-count (equal o) = ap suc (same-count o)
 same-count (other-from n a b o) = ap suc (same-count o)
 same-count (other-identity n a b o) = ap suc (same-count o)
 
-pub no-other-callers : NoOtherCallers
-no-other-callers m m′ c =
+pub no-other-pair : NoOtherPair
+no-other-pair m m′ c =
     let reads = lines-shaped (request (c .line)) (c .version) (c .rest) (c .start-shaped) in
     record {
       first-reads = reads m (c .fields) (c .all-shaped) (c .first) (c .within-bytes);
@@ -218,7 +219,7 @@ digits-hidden m m′ buffer c = go (leb (length (c .fields)) 96) refl
     l = request (c .line)
 
     r : CallersRead m m′ c
-    r = no-other-callers m m′ c
+    r = no-other-pair m m′ c
 
     es : List Entry
     es = keptOf l (c .fields)
@@ -236,7 +237,7 @@ digits-hidden m m′ buffer c = go (leb (length (c .fields)) 96) refl
         (judged-like (kept-like (columnOf (c .line .method) false) (c .other-caller)) (c .line) (c .rest) buffer (hides p))
     go false p = rw (r .first-reads, r .second-reads, r .as-many, p)
 
--- ---- either way, and nothing is left out
+-- ---- either way, and no pair is left out
 
 other-way : {fs gs : List Field} → OtherCaller fs gs → OtherCaller gs fs
 other-way no-fields = no-fields
@@ -273,39 +274,37 @@ either-way m m′ c =
       is-withheld = other-withheld (columnOf (c .line .method) false) (c .other-caller) (c .is-withheld);
     }
 
-same-caller : (fs : List Field) → OtherCaller fs fs
-same-caller [] = no-fields
-same-caller (f ∷ fs) = equal (same-caller fs)
-
-pub every-withheld : EveryWithheld
-every-withheld m l h e i w = go (everything m (request l) h e)
-  where
-    go : ReadAs m (request l) h → CallerReadAs m l h
-    go r =
-        let c = r .change in
-        let k : c .line ≡ request l = r .same-line in
-        let s : RequestShaped l (c .version) = rw k at (c .start-shaped) in
-        let o = rw (k, r .same-fields, r .same-rest) at (c .original) in
-        record {
-          callers =
-              record {
-                line = l;
-                version = c .version;
-                fields = h .fields;
-                fields′ = h .fields;
-                rest = h .rest;
-                an-invite = i;
-                start-shaped = s;
-                all-shaped = rw (r .same-fields) at (c .all-shaped);
-                all-shaped′ = rw (r .same-fields) at (c .all-shaped);
-                other-caller = same-caller (h .fields);
-                first = o;
-                second = o;
-                within-bytes = c .within-bytes;
-                within-bytes′ = c .within-bytes;
-                is-withheld = withheld-found (columnOf (l .method) false) (h .fields) w;
-              };
-          same-line = refl;
-          same-fields = refl;
-          same-rest = refl;
-        }
+pub every-pair : EveryPair
+every-pair m m′ l h h′ e e′ t b o i w =
+    let r = everything m (request l) h e in
+    let r′ = everything m′ (request l) h′ e′ in
+    let c = r .change in
+    let c′ = r′ .change in
+    let s : RequestShaped l (c .version) = rw (r .same-line) at (c .start-shaped) in
+    let s′ : RequestShaped l (c′ .version) = rw (r′ .same-line) at (c′ .start-shaped) in
+    let p : m ≡ startBytes (request l) (c .version) ++ headerBytes (h .fields) (h .rest) =
+    rw (r .same-line, r .same-fields, r .same-rest) at (c .original) in
+    let q : m′ ≡ startBytes (request l) (c′ .version) ++ headerBytes (h′ .fields) (h′ .rest) =
+    rw (r′ .same-line, r′ .same-fields, r′ .same-rest) at (c′ .original) in
+    let n = startSize (request l) in
+    let k : take n m ≡ startBytes (request l) (c .version) = ap (take n) p ∙ request-taken l (c .version) (headerBytes (h .fields) (h .rest)) s in
+    let k′ : take n m′ ≡ startBytes (request l) (c′ .version) =
+    ap (take n) q ∙ request-taken l (c′ .version) (headerBytes (h′ .fields) (h′ .rest)) s′ in
+    let v : startBytes (request l) (c′ .version) ≡ startBytes (request l) (c .version) = sym k′ ∙ sym t ∙ k in
+    record {
+      line = l;
+      version = c .version;
+      fields = h .fields;
+      fields′ = h′ .fields;
+      rest = h .rest;
+      an-invite = i;
+      start-shaped = s;
+      all-shaped = rw (r .same-fields) at (c .all-shaped);
+      all-shaped′ = rw (r′ .same-fields) at (c′ .all-shaped);
+      other-caller = o;
+      first = p;
+      second = rw (v, sym b) at q;
+      within-bytes = c .within-bytes;
+      within-bytes′ = c′ .within-bytes;
+      is-withheld = withheld-found (columnOf (l .method) false) (h .fields) w;
+    }

@@ -1,31 +1,30 @@
 -- Whether two messages are two callers (CR 5) can be computed: what is found is compared part by part, and every part found is such a one.
 use mathlib.Core.Path.{_≡_, refl, sym, ap, _∙_}
-use mathlib.Core.Bool.{Bool, true, false, _&&_}
-use mathlib.Core.List.{List, [], _∷_, _++_}
+use mathlib.Core.Bool.{Bool, true, false, not, _&&_, _||_}
+use mathlib.Core.List.{List, [], _∷_}
 use mathlib.Core.Option.{Option, none, some}
 use Prim.Native.Nat.{ℕ, _≤_}
-use native.Mathlib.Omega.{arith}
 use lib.Dec.{eqb, leb}
-use lib.ListN.{length, take, drop, length-append, take-append-drop}
-use lib.Seq.{take-at}
+use lib.ListN.{length, take, drop, take-append-drop}
 use borrow.Author.Tests.{eqb-true, leb-true}
 use Rattle.octets.specs.Classes.{text}
 use Rattle.octets.specs.Scans.{same}
 use Rattle.sip.specs.Lines.{RequestLine, Start, request, response, start, startBytes, startSize, Field, Header, header, canonical}
-use Rattle.sip.specs.Profile.{numberOf, columnOf}
-use Rattle.sip.specs.Values.{isFrom, tagOf, isIdentity, identity}
-use Rattle.sip.specs.Refusals.{withheld, keptOf}
-use Rattle.sip.specs.Change.{RequestShaped, headerBytes}
+use Rattle.sip.specs.Profile.{numberOf, ignored}
+use Rattle.sip.specs.Values.{isFrom, tagOf, isIdentity, identity, restricts}
+use Rattle.sip.specs.declared.Column.{Column}
+use Rattle.sip.specs.Refusals.{messageColumn}
+use Rattle.sip.specs.Grammar.{HoldsAny, here, later}
+use Rattle.sip.specs.GrammarPromises.{Withholding}
 use Rattle.sip.specs.Screen.{Screened, screened}
-use Rattle.sip.specs.Readings.{callingNumber}
-use Rattle.sip.specs.Hidden.{Pair, alike, apart, numbered, PairHolds, PairsHold, no-pair, pair}
+use Rattle.sip.specs.Hidden.{Pair, alike, apart, handedBack, PairHolds, PairsHold, no-pair, pair}
 use Rattle.sip.specs.Callers.{withValue, OtherCaller, no-fields, equal, other-from, other-identity, TwoCallers}
 use Rattle.sip.proofs.Tests.{never, and-left, and-right}
 use Rattle.sip.proofs.Texts.{same-eq, same-refl}
-use Rattle.sip.proofs.Starts.{version-size, start-here}
+use Rattle.sip.proofs.Starts.{request-taken, start-here}
 use Rattle.sip.proofs.Headers.{header-here}
 use Rattle.sip.proofs.Grammar.Promises.{from-read, identity-read}
-use Rattle.sip.proofs.Grammar.Withheld.{withheld-found}
+use Rattle.sip.proofs.Grammar.Tokens.{restricts-sound}
 
 -- texts that are not the same by the test are not equal
 pub differ : (s t : List ℕ) → same s t ≡ false → s ≡ t → ⊥
@@ -99,13 +98,36 @@ fields-pair (f ∷ fs) (g ∷ gs) e =
     let k : withValue f (g .value) ≡ g = rw (n, p) in
     rw (← k) (two-values f (g .value) fs gs (fields-pair fs gs (and-right values (twoFields fs gs) b)) (and-left values (twoFields fs gs) b))
 
+-- any of them withholds
+unfoldable pub anyWithholds : Option Column → List Field → Bool
+anyWithholds c [] = false
+anyWithholds c (f ∷ fs) =
+    let others = anyWithholds c fs in
+    (eqb (numberOf (f .name)) 16 && (not (ignored c 16) && restricts (canonical (f .value)))) || others
+
+any-withholds : (c : Option Column) (fs : List Field) → anyWithholds c fs ≡ true → HoldsAny (Withholding c) fs
+unfolding anyWithholds
+any-withholds c [] e = never (cc)
+any-withholds c (f ∷ fs) e =
+    go (eqb (numberOf (f .name)) 16) (ignored c 16) (restricts (canonical (f .value))) refl refl refl e (any-withholds c fs)
+  where
+    go : (n i r : Bool) → eqb (numberOf (f .name)) 16 ≡ n → ignored c 16 ≡ i → restricts (canonical (f .value)) ≡ r
+        → ((n && (not i && r)) || anyWithholds c fs) ≡ true → (anyWithholds c fs ≡ true → HoldsAny (Withholding c) fs)
+        → HoldsAny (Withholding c) (f ∷ fs)
+    go true false true p q s e ih =
+        let (ts, d, h) = restricts-sound (canonical (f .value)) s in
+        here (record { a-privacy = eqb-true (numberOf (f .name)) 16 p; not-ignored = q; priv-values = ts; derived = d; restricting = h })
+    go true false false p q s e ih = later (ih e)
+    go true true r p q s e ih = later (ih e)
+    go false i r p q s e ih = later (ih e)
+
 -- ---- the messages
 
 unfoldable pub twoHeaders : RequestLine → Option Header → Option Header → Bool
 twoHeaders l none o = false
 twoHeaders l (some h) none = false
 twoHeaders l (some h) (some k) =
-    same (h .rest) (k .rest) && (twoFields (h .fields) (k .fields) && withheld (keptOf (request l) (h .fields)))
+    same (h .rest) (k .rest) && (twoFields (h .fields) (k .fields) && anyWithholds (messageColumn (request l) (h .fields)) (h .fields))
 
 unfoldable pub twoStarts : List ℕ → List ℕ → Option Start → Bool
 twoStarts m m′ none = false
@@ -117,24 +139,17 @@ twoStarts m m′ (some (request l)) =
 unfoldable pub areTwoCallers : List ℕ → List ℕ → Bool
 areTwoCallers m m′ = leb (length m) 8192 && (leb (length m′) 8192 && twoStarts m m′ (start m))
 
--- the bytes of a request line that is read
-start-size : (l : RequestLine) (version : List ℕ) → RequestShaped l version → length (startBytes (request l) version) ≡ startSize (request l)
-start-size l version w =
-    let v = version-size version (w .version-written) in
-    rw (length-append (l .method) (32 ∷ (l .uri ++ version)), length-append (l .uri) version, v) (omega arith)
-
 module _ (m m′ : List ℕ) (b : length m ≤ 8192) (b′ : length m′ ≤ 8192) where
   headers-pair : (l : RequestLine) → start m ≡ some (request l) → l .method ≡ text "INVITE"
       → take (startSize (request l)) m ≡ take (startSize (request l)) m′ → (h k : Header) → header 0 (drop (startSize (request l)) m) ≡ some h
       → header 0 (drop (startSize (request l)) m′) ≡ some k → h .rest ≡ k .rest → OtherCaller (h .fields) (k .fields)
-      → withheld (keptOf (request l) (h .fields)) ≡ true → TwoCallers m m′
+      → HoldsAny (Withholding (messageColumn (request l) (h .fields))) (h .fields) → TwoCallers m m′
   headers-pair l p i t h k q r e o w =
       let n = startSize (request l) in
       let s = start-here m (request l) p in
       let x = header-here 0 (drop n m) h q in
       let y = header-here 0 (drop n m′) k r in
-      let z : take n m ≡ startBytes (request l) (s .version) =
-      ap (take n) (sym (s .here)) ∙ take-at (startBytes (request l) (s .version)) (drop n m) n (start-size l (s .version) (s .shaped)) in
+      let z : take n m ≡ startBytes (request l) (s .version) = ap (take n) (sym (s .here)) ∙ request-taken l (s .version) (drop n m) (s .shaped) in
       record {
         line = l;
         version = s .version;
@@ -150,7 +165,7 @@ module _ (m m′ : List ℕ) (b : length m ≤ 8192) (b′ : length m′ ≤ 819
         second = rw (e, y .here, ← z, t) (sym (take-append-drop n m′));
         within-bytes = b;
         within-bytes′ = b′;
-        is-withheld = withheld-found (columnOf (l .method) false) (h .fields) w;
+        is-withheld = w;
       }
 
   starts-pair : (o : Option Start) → start m ≡ o → twoStarts m m′ o ≡ true → TwoCallers m m′
@@ -172,7 +187,7 @@ module _ (m m′ : List ℕ) (b : length m ≤ 8192) (b′ : length m′ ≤ 819
       go i t (some h) (some k) q r c =
           let d = and-right (same (h .rest) (k .rest)) _ c in
           headers-pair l p i t h k q r (same-eq (h .rest) (k .rest) (and-left (same (h .rest) (k .rest)) _ c))
-          (fields-pair (h .fields) (k .fields) (and-left (twoFields (h .fields) (k .fields)) _ d)) (and-right (twoFields (h .fields) (k .fields)) _ d)
+          (fields-pair (h .fields) (k .fields) (and-left (twoFields (h .fields) (k .fields)) _ d)) (any-withholds (messageColumn (request l) (h .fields)) (h .fields) (and-right (twoFields (h .fields) (k .fields)) _ d))
 
 pub two-callers : (m m′ : List ℕ) → areTwoCallers m m′ ≡ true → TwoCallers m m′
 unfolding areTwoCallers
@@ -198,8 +213,8 @@ Computes (alike m m′ buffer gives) =
     found (areTwoCallers m m′) (same m m′) (screened m 1 buffer) (screened m′ 1 buffer) ≡ found true false gives gives
 Computes (apart m m′ side buffer gives gives′) =
     found true (same (gives .buffer) (gives′ .buffer)) (screened m side buffer) (screened m′ side buffer) ≡ found true false gives gives′
-Computes (numbered m m′ trunk number number′) =
-    found (areTwoCallers m m′) (same number number′) (callingNumber m trunk) (callingNumber m′ trunk) ≡ found true false number number′
+Computes (handedBack hands m m′ text text′) =
+    found (areTwoCallers m m′) (same text text′) (hands m) (hands m′) ≡ found true false text text′
 
 pub data AllCompute : List Pair → Type 0 where
   no-more : AllCompute []
@@ -219,12 +234,12 @@ holds (apart m m′ side buffer gives gives′) e =
       second-gives = ap (λ (c : Found Screened). c .second) e;
       buffers-differ = differ (gives .buffer) (gives′ .buffer) (ap (λ (c : Found Screened). c .same) e);
     }
-holds (numbered m m′ trunk number number′) e =
+holds (handedBack hands m m′ text text′) e =
     record {
       two-callers = two-callers m m′ (ap (λ (c : Found (List ℕ)). c .callers) e);
-      first-number = ap (λ (c : Found (List ℕ)). c .first) e;
-      second-number = ap (λ (c : Found (List ℕ)). c .second) e;
-      numbers-differ = differ number number′ (ap (λ (c : Found (List ℕ)). c .same) e);
+      first-text = ap (λ (c : Found (List ℕ)). c .first) e;
+      second-text = ap (λ (c : Found (List ℕ)). c .second) e;
+      texts-differ = differ text text′ (ap (λ (c : Found (List ℕ)). c .same) e);
     }
 
 pub all-hold : {ps : List Pair} → AllCompute ps → PairsHold ps

@@ -17,8 +17,8 @@ use Rattle.sip.specs.Starred.{linesOf, callWith, call, printed, blankBuf
 use Rattle.sip.specs.Responses.{responseWith, written, responses}
 use Rattle.sip.specs.Privacy.{requestWith, outgoing, callWithPrivacy, masked, unmasked, privacies}
 use Rattle.sip.specs.Hidden.{OtherCall, PairsHold, otherCall, shown, shortCall, shortSent}
-use Rattle.sip.specs.Hidden.{manyFields, pairs}
-use Rattle.sip.specs.Readings.{valueSpan, valueSpans, spans, count, callingNumber}
+use Rattle.sip.specs.Hidden.{byeFrom, byeSent, manyFields, spaces, stretched, pairs}
+use Rattle.sip.specs.Readings.{valueSpan, valueSpans, spans, count, place, readingAt, reading, callingNumber}
 use Rattle.sip.specs.Values.{isEmpty, isNumber, isMaxForwards, isContentLength, isCSeq, cseqMethod, isCallId, host, port, hostPort, tail}
 use Rattle.sip.specs.Values.{sipFrom, sip}
 use Rattle.sip.specs.Values.{tel, uri, display, bracketed, address, sign, paramValue, paramRest, param, withParam, stops, params, party}
@@ -26,7 +26,7 @@ use Rattle.sip.specs.Values.{isTo, isTagged, isFrom, tagOf, isGlobal, pe
 use Rattle.sip.specs.Values.{restricts, isRequire, requiredTags, firstPlace, isLacking, isShort, isCalled}
 use Rattle.causes.specs.Causes.{status, cause, statusEntries, classEnds, nextAbove, rowOf, statusOf, causeEntries, causeOf, listed, given, among}
 use Rattle.sip.specs.Starred.{AllHold, no-row, row}
-use Rattle.sip.proofs.Pairs.{differ, twoFields, twoHeaders, twoStarts, areTwoCallers, two-callers, AllCompute, no-more, next, all-hold}
+use Rattle.sip.proofs.Pairs.{differ, twoFields, anyWithholds, twoHeaders, twoStarts, areTwoCallers, two-callers, AllCompute, no-more, next, all-hold}
 
 -- what the rows compute with: whoever unfolds this unfolds all of it
 unfoldable computed : ℕ
@@ -38,8 +38,8 @@ unfolding status cause statusEntries classEnds nextAbove rowOf statusOf causeEnt
     isUri reason8 firstRepeat reason9 wellFormed firstMalformed reason10 exceeds reason11 missingOf reason12 noHops reason13 allTags
     firstLacking reason14 reason15 reasons responseReasons judgedRequest firstCSeqMethod responseColumnOf judgedResponse judgement masks
     delivered screened linesOf callWith call printed blankBuffer starred responseWith written responses requestWith outgoing
-    callWithPrivacy masked unmasked privacies otherCall shown shortCall shortSent manyFields pairs twoFields twoHeaders twoStarts
-    areTwoCallers valueSpan valueSpans spans count callingNumber isEmpty isNumber isMaxForwards
+    callWithPrivacy masked unmasked privacies otherCall shown shortCall shortSent byeFrom byeSent manyFields spaces stretched pairs twoFields anyWithholds twoHeaders twoStarts
+    areTwoCallers valueSpan valueSpans spans count place readingAt reading callingNumber isEmpty isNumber isMaxForwards
     isContentLength isCSeq cseqMethod isCallId host port hostPort tail sipFrom sip tel uri display bracketed address sign paramValue
     paramRest param withParam stops params party isTo isTagged isFrom tagOf isGlobal person identity isIdentity tokens isPrivacy
     isRestricting restricts isRequire requiredTags firstPlace isLacking isShort isCalled
@@ -71,9 +71,10 @@ privacies-hold = tables-hold .2
 pairs-compute : AllCompute pairs
 unfolding computed
 pairs-compute =
-    next refl (next refl (next refl (next refl (next refl (next refl (next refl (next refl (next refl (next refl (next refl (next
-    refl (next refl (next refl (next refl (next refl (next refl (next refl (next refl (next refl (next refl (next refl (next refl
-    (next refl (next refl no-more))))))))))))))))))))))))
+    next refl (next refl (next refl (next refl (next refl (next refl (next refl (next refl (next refl (next refl (next refl (next refl (
+    next refl (next refl (next refl (next refl (next refl (next refl (next refl (next refl (next refl (next refl (next refl (next refl (
+    next refl (next refl (next refl (next refl (next refl (next refl (next refl (next refl (next refl (next refl (next refl (next refl (
+    next refl (next refl (next refl no-more))))))))))))))))))))))))))))))))))))))
 
 pub other-call : OtherCall
 unfolding computed

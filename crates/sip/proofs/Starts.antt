@@ -7,7 +7,7 @@ use mathlib.Core.Option.{Option, none, some}
 use Prim.Native.Nat.{ℕ, _+_}
 use native.Mathlib.Omega.{arith}
 use lib.Dec.{eqb}
-use lib.ListN.{length, take, drop, take-append-drop}
+use lib.ListN.{length, take, drop, length-append, take-append-drop}
 use lib.Seq.{length-take-le, take-append-seam, drop-append-seam, take-at, drop-at, drop-drop}
 use borrow.Author.Tests.{eqb-true, eq-eqb}
 use Rattle.octets.specs.Classes.{text, within, isToken, isDigit, isValue, isVisible}
@@ -52,6 +52,14 @@ module _ (l : RequestLine) (version t : List ℕ) where
     request-rest =
         rw (← drop-drop 10 (length (l .method) + 1 + length (l .uri)) (startBytes (request l) version ++ t), after-uri)
         (drop-at version t 10 (version-size version (w .version-written)))
+
+    -- the bytes of the line are the first ones
+    pub request-taken : take (startSize (request l)) (startBytes (request l) version ++ t) ≡ startBytes (request l) version
+    request-taken =
+        let v = version-size version (w .version-written) in
+        let n : length (startBytes (request l) version) ≡ startSize (request l) =
+        rw (length-append (l .method) (32 ∷ (l .uri ++ version)), length-append (l .uri) version, v) (omega arith) in
+        take-at (startBytes (request l) version) t (startSize (request l)) n
 
     pub request-bytes : requestLine (startBytes (request l) version ++ t) ≡ some l
     unfolding requestLine starts isToken

@@ -1,4 +1,6 @@
--- CR 5, "The digits cannot show": two INVITEs that differ in their caller alone.
+-- CR 5, "The digits cannot show": two INVITEs that differ in their caller alone. `DigitsHidden` says that on side 1 they have one answer and one
+-- outgoing message, so that nothing there depends on P-Asserted-Identity, or on From but for its tag. All other fields, the tag and the body
+-- go out as they are, whatever digits stand in them.
 use mathlib.Core.Path.{_≡_}
 use mathlib.Core.List.{List, [], _∷_, _++_}
 use Prim.Native.Nat.{ℕ, _≤_}
@@ -16,10 +18,10 @@ abbrev pub withValue : Field → List ℕ → Field
 withValue f v = record { name = f .name; gap = f .gap; value = v }
 
 -- The fields of the two messages, one to one and in order: "equal except for the values of P-Asserted-Identity and the part of From outside
--- its tag parameter"; "these two values are well formed with the same tag". From's two values have the URIs u and u′ and the one tag t;
--- the two identities have the numbers n and n′. Nothing else of these values is compared: their display names, other parameters, line
--- breaks and outer blanks are free, and so is how the tag is written (`tag` in any letter case, blanks around its `;` and `=`, its place
--- among the parameters). Of fields with the same bytes nothing is asked.
+-- its tag parameter"; "these two values are well formed with the same tag". From has the number 3, P-Asserted-Identity the number 15. Of
+-- From's two values the tag t alone is the same; the URIs u and u′, and the numbers n and n′ of two identities, may be any. So display names,
+-- URIs, other parameters, line breaks and outer blanks are free, and so is how the tag is written: `tag` in any letter case, blanks around
+-- its `;` and `=`, its place among the parameters. Where both have the same bytes only the shape is asked: an equal From may be malformed
 pub data OtherCaller : List Field → List Field → Type 0 where
   no-fields : OtherCaller [] []
   equal : {f : Field} {fs gs : List Field} → OtherCaller fs gs → OtherCaller (f ∷ fs) (f ∷ gs)
@@ -31,9 +33,9 @@ pub data OtherCaller : List Field → List Field → Type 0 where
       → Identity (canonical v) n′ → OtherCaller fs gs → OtherCaller (f ∷ fs) (withValue f v ∷ gs)
 
 -- "Take two INVITEs .. both withheld, equal except for" these; "Both messages keep to 8,192 bytes and well-shaped fields". Each is the same
--- start line, its fields, the empty line and the same bytes after it. They are withheld where one of the first one's fields is a Privacy
--- that is not ignored and holds any of the three (CR 2); it is equal in both. How many fields they have is not asked: over 96 both are
--- refused for that
+-- start line, its fields, the empty line, and the same bytes after it. (Where the start line has a bad shape, or no empty line ends the
+-- fields, both are refused alike, with 3 or 4.) They are withheld where any field of the first is a Privacy that is not ignored and holds
+-- any of the three (CR 2); it is equal in both. How many fields they have is not asked: over 96, both are refused with 5
 pub record TwoCallers (m m′ : List ℕ) : Type 0 where
   pub line : RequestLine
   pub version : List ℕ

@@ -1,13 +1,13 @@
--- CR 5, worked pairs: two callers that are screened alike, and pairs that show why each premise is asked for.
+-- CR 5, worked pairs: two callers who are screened alike, and pairs that differ since one of the request's words does not hold of them.
 use mathlib.Core.Path.{_≡_}
 use mathlib.Core.List.{List, [], _∷_, _++_}
 use Prim.Native.Nat.{ℕ, zero, suc}
 use Prim.Native.String.{String}
-use lib.ListN.{drop}
+use lib.ListN.{take, drop}
 use Rattle.octets.specs.Classes.{text}
 use Rattle.sip.specs.Refusals.{refusal}
 use Rattle.sip.specs.Screen.{Screened, refusing, screened}
-use Rattle.sip.specs.Readings.{callingNumber}
+use Rattle.sip.specs.Readings.{reading, callingNumber}
 use Rattle.sip.specs.Callers.{TwoCallers}
 use Rattle.sip.specs.Starred.{linesOf, callWith, call, printed, blankBuffer, invite, hops, caller, identity, noBody}
 
@@ -19,10 +19,14 @@ otherFrom = "f: \"Doe, J\" <sip:+4930123456@relay.example>;tag=a1" ∷ []
 abbrev otherIdentity : String
 otherIdentity = "P-Asserted-Identity: \"Doe, J\" <sip:+4930123456@relay.example>"
 
+-- the start line with its version in small letters
+abbrev smallVersion : String
+smallVersion = "INVITE sip:+33123456789@gw.example sip/2.0"
+
 unfoldable pub otherCall : List ℕ
 otherCall = callWith invite hops otherFrom otherIdentity noBody
 
--- they are two callers, and their bytes differ
+-- the instance of CR 5 by itself: these are two callers, and their bytes differ
 pub record OtherCall : Type 0 where
   pub two-callers : TwoCallers call otherCall
   pub bytes-differ : call ≡ otherCall → ⊥
@@ -36,28 +40,28 @@ pub record Alike (m m′ buffer : List ℕ) (gives : Screened) : Type 0 where
   pub first-gives : screened m 1 buffer ≡ gives
   pub second-gives : screened m′ 1 buffer ≡ gives
 
--- on this side and with this buffer the first gives this and the second that, and the buffers differ
+-- on this side and with this buffer the first gives this and the second that, and the buffers afterwards differ
 pub record Apart (m m′ : List ℕ) (side : ℕ) (buffer : List ℕ) (gives gives′ : Screened) : Type 0 where
   pub first-gives : screened m side buffer ≡ gives
   pub second-gives : screened m′ side buffer ≡ gives′
   pub buffers-differ : gives .buffer ≡ gives′ .buffer → ⊥
 
--- two callers: with this trunk number they have these calling numbers, which differ
-pub record Numbered (m m′ trunk number number′ : List ℕ) : Type 0 where
+-- two callers: what is handed back of them differs
+pub record HandedBack (hands : List ℕ → List ℕ) (m m′ text text′ : List ℕ) : Type 0 where
   pub two-callers : TwoCallers m m′
-  pub first-number : callingNumber m trunk ≡ number
-  pub second-number : callingNumber m′ trunk ≡ number′
-  pub numbers-differ : number ≡ number′ → ⊥
+  pub first-text : hands m ≡ text
+  pub second-text : hands m′ ≡ text′
+  pub texts-differ : text ≡ text′ → ⊥
 
 pub data Pair : Type 0 where
   alike : List ℕ → List ℕ → List ℕ → Screened → Pair
   apart : List ℕ → List ℕ → ℕ → List ℕ → Screened → Screened → Pair
-  numbered : List ℕ → List ℕ → List ℕ → List ℕ → List ℕ → Pair
+  handedBack : (List ℕ → List ℕ) → List ℕ → List ℕ → List ℕ → List ℕ → Pair
 
 abbrev pub PairHolds : Pair → Type 0
 PairHolds (alike m m′ buffer gives) = Alike m m′ buffer gives
 PairHolds (apart m m′ side buffer gives gives′) = Apart m m′ side buffer gives gives′
-PairHolds (numbered m m′ trunk number number′) = Numbered m m′ trunk number number′
+PairHolds (handedBack hands m m′ text text′) = HandedBack hands m m′ text text′
 
 -- every row holds
 pub data PairsHold : List Pair → Type 0 where
@@ -95,7 +99,7 @@ shortCall from to asserted others =
     ("INVITE sip:112@gw.example SIP/2.0" ∷ "Via: x" ∷ "Max-Forwards: 9"
     ∷ (from ++ (to ∷ "Call-ID: 8" ∷ "CSeq: 1 INVITE" ∷ "Contact: x" ∷ "Allow: " ∷ (asserted ++ others))))
 
--- what goes out of it, with these lines for From and To
+-- what goes out of it, with these lines for From and To, and these after the others
 unfoldable pub shortSent : String → String → List String → List ℕ
 shortSent from to others =
     linesOf
@@ -135,9 +139,28 @@ maskedBut from asserted gives =
     apart (shortCall ann untagged annsIdentity ("Privacy: id" ∷ [])) (shortCall from untagged asserted ("Privacy: id" ∷ [])) 1
     (blankBuffer 9216) (sent 209 (shortSent hidden untagged ("Privacy: id" ∷ [])) 9216) gives
 
+-- a BYE with this line for From, and what goes out of it
+unfoldable pub byeFrom : String → List ℕ
+byeFrom from =
+    linesOf
+    ("BYE sip:112@gw.example SIP/2.0" ∷ "Via: x" ∷ "Max-Forwards: 9" ∷ from ∷ tagged ∷ "Call-ID: 8" ∷ "CSeq: 2 BYE" ∷ "Privacy: id" ∷ [])
+
+unfoldable pub byeSent : String → List ℕ
+byeSent from = linesOf ("BYE sip:112@gw.example SIP/2.0" ∷ "Via: x" ∷ "Max-Forwards: 8" ∷ from ∷ tagged ∷ "Call-ID: 8" ∷ "CSeq: 2 BYE" ∷ [])
+
 unfoldable pub manyFields : ℕ → List String
 manyFields zero = []
 manyFields (suc n) = "a:" ∷ manyFields n
+
+unfoldable pub spaces : ℕ → List ℕ
+spaces zero = []
+spaces (suc n) = 32 ∷ spaces n
+
+-- the shorter call, of 239 bytes, with n spaces more before the value of its From
+unfoldable pub stretched : ℕ → List ℕ
+stretched n =
+    let m = shortCall ann untagged annsIdentity ("Privacy: id" ∷ []) in
+    take 65 m ++ (spaces n ++ drop 65 m)
 
 unfoldable pub pairs : List Pair
 pairs =
@@ -145,10 +168,17 @@ pairs =
     alike call otherCall (blankBuffer 9216) (sent 337 (printed invite) 9216)
     ∷ alike call otherCall (blankBuffer 337) (sent 337 (printed invite) 337)
     ∷ alike call otherCall (blankBuffer 336) (untouched 16 500 337 0 336)
-    -- "both withheld": by each of the three
+    -- what stood behind it in the buffer stays
+    ∷ alike call otherCall (blankBuffer 337 ++ text "before")
+    (record { answer = record { reason = 0; reply = 0; detail = 0; missing = 0; length = 337 }; buffer = printed invite ++ text "before" })
+    -- the version in small letters in both
+    ∷ alike (callWith smallVersion hops caller identity noBody) (callWith smallVersion hops otherFrom otherIdentity noBody)
+    (blankBuffer 9216) (sent 337 (printed invite) 9216)
+    -- withheld by `user` beside `none`
     ∷ alike (shortCall ann untagged annsIdentity ("Privacy: none; User" ∷ [])) (shortCall bob untagged bobsIdentity ("Privacy: none; User" ∷ []))
     (blankBuffer 9216) (sent 217 (shortSent hidden untagged ("Privacy: none; User" ∷ [])) 9216)
-    -- folds and blanks, tags in the display name, in the URI and in another parameter, a number of seven digits against one of fifteen
+    -- withheld by `header`; folds and blanks, tags in the display name, in the URI and in another parameter, a number of seven digits and
+    -- one of fifteen
     ∷ alike
     (shortCall ("From: \"b;tag=y\" <sip:h:1;tag=z>;tag=x" ∷ []) untagged ("P-Asserted-Identity: <sip:+1234567@h;p=q>" ∷ [])
     ("Privacy: header" ∷ []))
@@ -159,37 +189,66 @@ pairs =
     ∷ alike (shortCall ("From: \"A\" <sip:a@b>;tag=x" ∷ []) tagged [] ("Privacy: id" ∷ []))
     (shortCall ("From:\r\n sip:c@d ;p=q;TAG = x" ∷ []) tagged [] ("Privacy: id" ∷ [])) (blankBuffer 9216)
     (sent 216 (shortSent hidden tagged ("Privacy: id" ∷ [])) 9216)
-    -- refusals: more than 96 fields, another scheme, no URI, two From, two P-Asserted-Identity, two Privacy, another field malformed,
-    -- Content-Length too large, no P-Asserted-Identity in both, Max-Forwards 0, a required tag that we lack, no called number
+    -- a body that is cut
+    ∷ alike (shortCall ann untagged annsIdentity ("Privacy: id" ∷ "l: 2" ∷ "c: a" ∷ []) ++ text "hello")
+    (shortCall bob untagged bobsIdentity ("Privacy: id" ∷ "l: 2" ∷ "c: a" ∷ []) ++ text "hello") (blankBuffer 9216)
+    (sent 247 (shortSent hidden untagged ("Privacy: id" ∷ "Content-Length: 2" ∷ "Content-Type: a" ∷ []) ++ text "he") 9216)
+    -- 96 fields
+    ∷ alike (shortCall ann untagged annsIdentity ("Privacy: id" ∷ manyFields 86)) (shortCall bob untagged bobsIdentity ("Privacy: id" ∷ manyFields 86))
+    (blankBuffer 9216) (sent 209 (shortSent hidden untagged ("Privacy: id" ∷ [])) 9216)
+    -- refusals: more than 96 fields, another scheme, no URI
     ∷ shortRefused ann bob annsIdentity bobsIdentity (manyFields 87) 5 0 0 0
     ∷ bothRefused "INVITE http:x SIP/2.0" hops noBody 7 416 0 0
     ∷ bothRefused "INVITE sip:+33123456789@ SIP/2.0" hops noBody 8 400 0 0
+    -- two From, two P-Asserted-Identity, two Privacy in either order
     ∷ shortRefused (ann ++ ann) (bob ++ bob) annsIdentity bobsIdentity [] 9 400 3 0
     ∷ shortRefused ann bob (annsIdentity ++ bobsIdentity) (bobsIdentity ++ annsIdentity) [] 9 400 15 0
     ∷ shortRefused ann bob annsIdentity bobsIdentity ("Privacy: none" ∷ []) 9 400 16 0
+    ∷ shortRefused ann bob (annsIdentity ++ ("Privacy: none" ∷ [])) (bobsIdentity ++ ("Privacy: none" ∷ [])) [] 9 400 16 0
+    -- another field malformed; the same malformed From or P-Asserted-Identity in both
     ∷ shortRefused ann bob annsIdentity bobsIdentity ("Require: ;" ∷ []) 10 400 14 0
+    ∷ shortRefused ("From: x" ∷ []) ("From: x" ∷ []) annsIdentity bobsIdentity [] 10 400 3 0
+    ∷ shortRefused ann bob ("P-Asserted-Identity: x" ∷ []) ("P-Asserted-Identity: x" ∷ []) [] 10 400 15 0
+    -- Content-Length too large, no From and no P-Asserted-Identity in both, Max-Forwards 0, a required tag that we lack, no called number
     ∷ bothRefused invite hops "l: 1" 11 400 0 0
+    ∷ shortRefused [] [] annsIdentity bobsIdentity [] 12 400 3 1
     ∷ shortRefused ann bob [] [] [] 12 400 15 1
     ∷ bothRefused invite "Max-Forwards: 0" noBody 13 483 0 0
     ∷ shortRefused ann bob annsIdentity bobsIdentity ("Require: timer, foo" ∷ []) 14 420 2 0
     ∷ bothRefused "INVITE sip:gw.example SIP/2.0" hops noBody 15 484 0 0
-    -- on side 0 the same two calls differ
+    -- "side 1": on side 0 the two calls of the first row differ
     ∷ apart call otherCall 0 (blankBuffer 9216)
     (sent 379 (shown "From: <sip:+33187654321@relay.example>;tag=a1" "P-Asserted-Identity: <sip:+33187654321@relay.example>") 9216)
     (sent 395
     (shown "From: \"Doe, J\" <sip:+4930123456@relay.example>;tag=a1" "P-Asserted-Identity: \"Doe, J\" <sip:+4930123456@relay.example>")
     9216)
-    -- and so do two callers that are not withheld
+    -- "both withheld": two INVITEs that are not, and two BYEs, in which Privacy is ignored
     ∷ apart (shortCall ann untagged annsIdentity ("Privacy: none" ∷ [])) (shortCall bob untagged bobsIdentity ("Privacy: none" ∷ [])) 1
     (blankBuffer 9216)
     (sent 241 (shortSent "From: \"Ann\" <sip:+33187654321@h>;tag=x" untagged (annsIdentity ++ ("Privacy: none" ∷ []))) 9216)
     (sent 232 (shortSent "From: Bob B. <tel:+4930123456>;q;TAG\t= x" untagged (bobsIdentity ++ ("Privacy: none" ∷ []))) 9216)
-    -- another tag; From malformed in the second, P-Asserted-Identity malformed there, and not there
+    ∷ apart (byeFrom "From: <sip:+33187654321@h>;tag=x") (byeFrom "From: <sip:+4930123456@h>;tag=x") 1 (blankBuffer 9216)
+    (sent 151 (byeSent "From: <sip:+33187654321@h>;tag=x") 9216) (sent 150 (byeSent "From: <sip:+4930123456@h>;tag=x") 9216)
+    -- "the same tag": the letter case of its value counts
     ∷ maskedBut ("From: \"Ann\" <sip:+33187654321@h>;tag=X" ∷ []) annsIdentity
     (sent 209 (shortSent "From: \"Anonymous\" <sip:anonymous@anonymous.invalid>;tag=X" untagged ("Privacy: id" ∷ [])) 9216)
+    -- "well formed": From is not in the second, and P-Asserted-Identity is not or is absent there
     ∷ maskedBut ("From: \"Ann\" <sip:+33187654321@>;tag=x" ∷ []) annsIdentity (untouched 10 400 3 0 9216)
     ∷ maskedBut ann ("P-Asserted-Identity: tel:+493012" ∷ []) (untouched 10 400 15 0 9216)
     ∷ maskedBut ann [] (untouched 12 400 15 1 9216)
+    -- "well-shaped fields": a lone LF, which the canonical value no longer shows
+    ∷ maskedBut ("From: \"An\nn\" <sip:+33187654321@h>;tag=x" ∷ []) annsIdentity (untouched 4 0 0 0 9216)
+    -- "Both messages keep to 8,192 bytes"
+    ∷ apart (shortCall ann untagged annsIdentity ("Privacy: id" ∷ [])) (stretched 7954) 1 (blankBuffer 9216)
+    (sent 209 (shortSent hidden untagged ("Privacy: id" ∷ [])) 9216) (untouched 2 0 0 0 9216)
+    -- "equal except for the values": another To
+    ∷ apart (shortCall ann untagged annsIdentity ("Privacy: id" ∷ [])) (shortCall ann "To: <sip:113@gw.example>" annsIdentity ("Privacy: id" ∷ [])) 1
+    (blankBuffer 9216) (sent 209 (shortSent hidden untagged ("Privacy: id" ∷ [])) 9216)
+    (sent 209 (shortSent hidden "To: <sip:113@gw.example>" ("Privacy: id" ∷ [])) 9216)
     -- "The calling number and raw readings stay outside this."
-    ∷ numbered call otherCall (text "+33111111111") (text "+33187654321") (text "+4930123456")
+    ∷ handedBack (λ (m : List ℕ). callingNumber m (text "+33111111111")) call otherCall (text "+33187654321") (text "+4930123456")
+    ∷ handedBack (λ (m : List ℕ). reading m 3 1) call otherCall (text "<sip:+33187654321@relay.example>;tag=a1")
+    (text "\"Doe, J\" <sip:+4930123456@relay.example>;tag=a1")
+    ∷ handedBack (λ (m : List ℕ). reading m 15 1) call otherCall (text "<sip:+33187654321@relay.example>")
+    (text "\"Doe, J\" <sip:+4930123456@relay.example>")
     ∷ []

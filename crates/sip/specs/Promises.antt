@@ -4,10 +4,10 @@ use mathlib.Core.Bool.{Bool, true, false}
 use mathlib.Core.List.{List}
 use mathlib.Core.Option.{some}
 use Prim.Native.Nat.{ℕ, _+_, _<_}
-use lib.ListN.{length}
+use lib.ListN.{length, take}
 use Rattle.octets.specs.Classes.{text}
 use Rattle.sip.specs.declared.Column.the-variants.{Invite, Reinvite}
-use Rattle.sip.specs.Lines.{RequestLine, StatusLine, requestLine, statusLine, Start, request, response, start, Header}
+use Rattle.sip.specs.Lines.{RequestLine, StatusLine, requestLine, statusLine, Start, request, response, start, startSize, Header}
 use Rattle.sip.specs.Profile.{ignored}
 use Rattle.sip.specs.Refusals.{Answer, lines, read, headerLines, withheld, Passed, messageColumn, keptOf, judgement, accepted}
 use Rattle.sip.specs.Values.{isGlobal}
@@ -15,7 +15,7 @@ use Rattle.sip.specs.Output.{output}
 use Rattle.sip.specs.Screen.{screened}
 use Rattle.sip.specs.Readings.{callingNumber}
 use Rattle.sip.specs.Change.{Changed}
-use Rattle.sip.specs.Callers.{TwoCallers}
+use Rattle.sip.specs.Callers.{OtherCaller, TwoCallers}
 
 -- CR 1: a start line is a request line or a status line (RFC 3261, start-line), and no text is both
 abbrev pub OneKind : Type 0
@@ -77,30 +77,26 @@ SameIgnored = (n : ℕ) → ignored (some Reinvite) n ≡ ignored (some Invite) 
 abbrev pub DigitsHidden : Type 0
 DigitsHidden = (m m′ buffer : List ℕ) → TwoCallers m m′ → screened m′ 1 buffer ≡ screened m 1 buffer
 
--- "both withheld": it does not matter which of the two is called the first
+-- "both withheld": either of the two may be called the first
 abbrev pub EitherWay : Type 0
 EitherWay = (m m′ : List ℕ) → TwoCallers m m′ → TwoCallers m′ m
 
--- Nothing is left out of CR 5: every INVITE that reads and is withheld is one of two callers, with the lines that are read
-pub record CallerReadAs (m : List ℕ) (l : RequestLine) (h : Header) : Type 0 where
-  pub callers : TwoCallers m m
-  pub same-line : callers .line ≡ l
-  pub same-fields : callers .fields ≡ h .fields
-  pub same-rest : callers .rest ≡ h .rest
+-- No pair that reads is left out of CR 5: two messages with the same bytes before their fields and after them are two callers where these
+-- fields differ in the caller alone, the method is INVITE, and the first is withheld as `screened` takes it
+abbrev pub EveryPair : Type 0
+EveryPair =
+    (m m′ : List ℕ) (l : RequestLine) (h h′ : Header) → lines m ≡ read (request l) h → lines m′ ≡ read (request l) h′
+    → take (startSize (request l)) m ≡ take (startSize (request l)) m′ → h .rest ≡ h′ .rest → OtherCaller (h .fields) (h′ .fields)
+    → l .method ≡ text "INVITE" → withheld (keptOf (request l) (h .fields)) ≡ true → TwoCallers m m′
 
-abbrev pub EveryWithheld : Type 0
-EveryWithheld =
-    (m : List ℕ) (l : RequestLine) (h : Header) → lines m ≡ read (request l) h → l .method ≡ text "INVITE"
-    → withheld (keptOf (request l) (h .fields)) ≡ true → CallerReadAs m l h
-
--- and nothing else is in it: both messages read as the lines that it speaks of, or have more than 96 fields (reason 5)
+-- and nothing else is in it: both messages read as the lines that it speaks of, or both have more than 96 fields (reason 5)
 pub record CallersRead (m m′ : List ℕ) (c : TwoCallers m m′) : Type 0 where
   pub first-reads : lines m ≡ headerLines (request (c .line)) (some (record { fields = c .fields; rest = c .rest }))
   pub second-reads : lines m′ ≡ headerLines (request (c .line)) (some (record { fields = c .fields′; rest = c .rest }))
   pub as-many : length (c .fields′) ≡ length (c .fields)
 
-abbrev pub NoOtherCallers : Type 0
-NoOtherCallers = (m m′ : List ℕ) (c : TwoCallers m m′) → CallersRead m m′ c
+abbrev pub NoOtherPair : Type 0
+NoOtherPair = (m m′ : List ℕ) (c : TwoCallers m m′) → CallersRead m m′ c
 
 -- CR 1: the calling number of an accepted response is the trunk number, since its P-Asserted-Identity is ignored
 abbrev pub ResponseCalling : Type 0

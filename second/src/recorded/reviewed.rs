@@ -1,12 +1,13 @@
 //! Edge calls that readers of the pages alone wrote, with the answers: second/reviewed/calls.txt, responses.txt for CR 1, privacy.txt
-//! for CR 2.
+//! for CR 2, callers.txt for CR 5, in which two calls that follow one another are a pair.
 
 use super::Case;
 
-const FILES: [&str; 3] = [
+const FILES: [&str; 4] = [
     include_str!("../../reviewed/calls.txt"),
     include_str!("../../reviewed/responses.txt"),
     include_str!("../../reviewed/privacy.txt"),
+    include_str!("../../reviewed/callers.txt"),
 ];
 
 /// A call and what its writer says of it: reason, reply, detail, missing count and length, and the outgoing message.
@@ -26,7 +27,7 @@ pub fn calls() -> Vec<Reviewed> {
 }
 
 /// Each call is a paragraph; the first one of a file says what it has.
-pub fn files() -> [Vec<Reviewed>; 3] {
+pub fn files() -> [Vec<Reviewed>; 4] {
     FILES.map(|file| file.split("\n\n").skip(1).map(call).collect())
 }
 
