@@ -207,9 +207,9 @@ fn where_nobody_is_hidden_any_two_callers_differ() {
     let later = HIDDEN_LATER.replace("Contact", "P-Asserted-Identity: {identity}\nContact");
     all_are_shown(INITIAL, &initial, 0);
     all_are_shown(LATER, &later, 0);
-    let [no_way, no_other_way] = ["Privacy: identity", "Privacy: none ; Users"];
-    all_are_shown(&INITIAL.replace("Privacy: id", no_way), &initial.replace("Privacy: id", no_way), 1);
-    all_are_shown(&LATER.replace("Privacy: none ; User", no_other_way), &later.replace("Privacy: none ; User", no_other_way), 1);
+    let [other_token, other_tokens] = ["Privacy: identity", "Privacy: none ; Users"];
+    all_are_shown(&INITIAL.replace("Privacy: id", other_token), &initial.replace("Privacy: id", other_token), 1);
+    all_are_shown(&LATER.replace("Privacy: none ; User", other_tokens), &later.replace("Privacy: none ; User", other_tokens), 1);
     all_are_shown(&INITIAL.replace("Privacy: id\n", ""), &initial.replace("Privacy: id\n", ""), 1);
 }
 
@@ -251,7 +251,7 @@ fn up_to_8192_bytes_the_length_does_not_show() {
 }
 
 #[test]
-fn another_tag_or_an_identity_on_one_side_alone_may_show() {
+fn another_tag_or_an_identity_in_one_message_alone_may_show() {
     let plain = message(INITIAL, FROMS[0].0, IDENTITIES[0].0);
     let tagged = message(INITIAL, &FROMS[0].0.replace("q7", "Q7"), IDENTITIES[0].0);
     let without = message(&INITIAL.replace("P-Asserted-Identity:{identity}\n", ""), FROMS[0].0, "");

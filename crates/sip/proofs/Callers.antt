@@ -1,5 +1,4 @@
--- CR 5: two callers keep the same fields but for From and P-Asserted-Identity, and no reason and no masked line sees more of these than
--- that they are well formed, and From's tag.
+-- CR 5: of From and P-Asserted-Identity no reason and no masked line sees more than that they are well formed, and From's tag.
 use mathlib.Core.Path.{_≡_, refl, sym, ap, _∙_}
 use mathlib.Core.Bool.{Bool, true, false, cond}
 use mathlib.Core.List.{List, [], _∷_, _++_}
@@ -10,7 +9,7 @@ use lib.ListN.{length, take}
 use Rattle.sip.specs.declared.Column.{Column}
 use Rattle.sip.specs.Lines.{RequestLine, Start, request, startBytes, startSize, Field, Header, canonical}
 use Rattle.sip.specs.Profile.{numberOf, columnOf, ignored, numbers}
-use Rattle.sip.specs.Values.{isEmpty, isFrom, tagOf, isIdentity}
+use Rattle.sip.specs.Values.{isEmpty, isFrom, tagOf, isIdentity, identity}
 use Rattle.sip.specs.Refusals.{Answer, Entry, kept, valueOf, occurs, toTagged, withheld, contentLength, bodyOf, firstRepeat, reason9}
 use Rattle.sip.specs.Refusals.{wellFormed, firstMalformed, reason10, exceeds, reason11, missingOf, reason12, noHops, reason13, allTags}
 use Rattle.sip.specs.Refusals.{firstLacking, reason14, firstOf, reasons, passed, accepted, read, lines, judgedRequest, keptOf, judgement}
@@ -20,7 +19,7 @@ use Rattle.sip.specs.Change.{RequestShaped, headerBytes}
 use Rattle.sip.specs.Callers.{OtherCaller, no-fields, equal, other-from, other-identity}
 use Rattle.sip.specs.Grammar.{HoldsAny, here, later}
 use Rattle.sip.specs.GrammarPromises.{Withholding}
-use Rattle.sip.specs.Promises.{DigitsHidden, EitherWay, EveryPair, CallersRead, NoOtherPair}
+use Rattle.sip.specs.Promises.{DigitsHidden, EitherWay, AnyValue, EveryPair, CallersRead, NoOtherPair}
 use Rattle.sip.proofs.Tests.{never}
 use Rattle.sip.proofs.Starts.{request-taken}
 use Rattle.sip.proofs.Change.{lines-shaped, everything}
@@ -44,7 +43,8 @@ data Like : List Entry → List Entry → Type 0 where
       → Like (entry 15 v ∷ es) (entry 15 w ∷ ds)
 
 -- where a field is ignored in both, or kept in both
-kept-more : (t : Bool) (e d : Entry) (es ds : List Entry) → Like es ds → (Like es ds → Like (e ∷ es) (d ∷ ds)) → Like (cond t es (e ∷ es)) (cond t ds (d ∷ ds))
+kept-more : (t : Bool) (e d : Entry) (es ds : List Entry) → Like es ds → (Like es ds → Like (e ∷ es) (d ∷ ds))
+    → Like (cond t es (e ∷ es)) (cond t ds (d ∷ ds))
 kept-more true e d es ds l k = l
 kept-more false e d es ds l k = k l
 
@@ -54,14 +54,14 @@ kept-like c no-fields = no-entries
 kept-like c (equal {f = f} {fs = fs} {gs = gs} o) =
     let e = entry (numberOf (f .name)) (canonical (f .value)) in
     kept-more (ignored c (numberOf (f .name))) e e (kept c fs) (kept c gs) (kept-like c o) (λ l. same-entry l)
-kept-like c (other-from {f = f} {v = v} {t = t} {u = u} {u′ = u′} {fs = fs} {gs = gs} n a b o) =
-    let (x, p) = from-read (canonical (f .value)) t .1 (u, a) in
-    let (y, q) = from-read (canonical v) t .1 (u′, b) in
+kept-like c (other-from {f = f} {v = v} {fs = fs} {gs = gs} n a b o) =
+    let (x, p) = from-read (canonical (f .value)) _ .1 (_, a) in
+    let (y, q) = from-read (canonical v) _ .1 (_, b) in
     rw n (kept-more (ignored c 3) (entry 3 (canonical (f .value))) (entry 3 (canonical v)) (kept c fs) (kept c gs) (kept-like c o)
     (λ l. two-froms x y (q ∙ sym p) l))
-kept-like c (other-identity {f = f} {v = v} {n = d} {n′ = d′} {fs = fs} {gs = gs} n a b o) =
-    let (x, p) = identity-read (canonical (f .value)) d .1 a in
-    let (y, q) = identity-read (canonical v) d′ .1 b in
+kept-like c (other-identity {f = f} {v = v} {fs = fs} {gs = gs} n a b o) =
+    let (x, p) = identity-read (canonical (f .value)) _ .1 a in
+    let (y, q) = identity-read (canonical v) _ .1 b in
     rw n (kept-more (ignored c 15) (entry 15 (canonical (f .value))) (entry 15 (canonical v)) (kept c fs) (kept c gs) (kept-like c o)
     (λ l. two-identities x y l))
 
@@ -237,7 +237,22 @@ digits-hidden m m′ buffer c = go (leb (length (c .fields)) 96) refl
         (judged-like (kept-like (columnOf (c .line .method) false) (c .other-caller)) (c .line) (c .rest) buffer (hides p))
     go false p = rw (r .first-reads, r .second-reads, r .as-many, p)
 
--- ---- either way, and no pair is left out
+-- ---- either way, and no value and no pair is left out
+
+pub any-value : AnyValue
+any-value =
+    record {
+      of-from =
+          λ f w fs gs n a b t o.
+          let (u, x) = from-read (canonical (f .value)) (tagOf (canonical (f .value))) .0 (a, refl) in
+          let (u′, y) = from-read (canonical w) (tagOf (canonical (f .value))) .0 (b, t) in
+          other-from n x y o;
+      of-identity =
+          λ f w fs gs n a b o.
+          let x = identity-read (canonical (f .value)) (identity (canonical (f .value))) .0 (a, refl) in
+          let y = identity-read (canonical w) (identity (canonical w)) .0 (b, refl) in
+          other-identity n x y o;
+    }
 
 other-way : {fs gs : List Field} → OtherCaller fs gs → OtherCaller gs fs
 other-way no-fields = no-fields

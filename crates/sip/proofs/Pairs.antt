@@ -1,4 +1,4 @@
--- Whether two messages are two callers (CR 5) can be computed: what is found is compared part by part, and every part found is such a one.
+-- A test for two callers (CR 5) that computes, proved right: it compares two messages part by part, as they are read.
 use mathlib.Core.Path.{_≡_, refl, sym, ap, _∙_}
 use mathlib.Core.Bool.{Bool, true, false, not, _&&_, _||_}
 use mathlib.Core.List.{List, [], _∷_}
@@ -11,19 +11,19 @@ use Rattle.octets.specs.Classes.{text}
 use Rattle.octets.specs.Scans.{same}
 use Rattle.sip.specs.Lines.{RequestLine, Start, request, response, start, startBytes, startSize, Field, Header, header, canonical}
 use Rattle.sip.specs.Profile.{numberOf, ignored}
-use Rattle.sip.specs.Values.{isFrom, tagOf, isIdentity, identity, restricts}
+use Rattle.sip.specs.Values.{isFrom, tagOf, isIdentity, restricts}
 use Rattle.sip.specs.declared.Column.{Column}
 use Rattle.sip.specs.Refusals.{messageColumn}
 use Rattle.sip.specs.Grammar.{HoldsAny, here, later}
 use Rattle.sip.specs.GrammarPromises.{Withholding}
 use Rattle.sip.specs.Screen.{Screened, screened}
 use Rattle.sip.specs.Hidden.{Pair, alike, apart, handedBack, PairHolds, PairsHold, no-pair, pair}
-use Rattle.sip.specs.Callers.{withValue, OtherCaller, no-fields, equal, other-from, other-identity, TwoCallers}
+use Rattle.sip.specs.Callers.{withValue, OtherCaller, no-fields, equal, TwoCallers}
 use Rattle.sip.proofs.Tests.{never, and-left, and-right}
 use Rattle.sip.proofs.Texts.{same-eq, same-refl}
 use Rattle.sip.proofs.Starts.{request-taken, start-here}
 use Rattle.sip.proofs.Headers.{header-here}
-use Rattle.sip.proofs.Grammar.Promises.{from-read, identity-read}
+use Rattle.sip.proofs.Callers.{any-value}
 use Rattle.sip.proofs.Grammar.Tokens.{restricts-sound}
 
 -- texts that are not the same by the test are not equal
@@ -32,10 +32,10 @@ differ s t e p = let z : same t t ≡ false = rw p at e in never (let w = same-r
 
 -- ---- the fields
 
--- the canonical values of one field: whether the values are equal, and whether the field is From or P-Asserted-Identity
+-- two canonical values of one field; the flags: the values are equal as written, the field is From, it is P-Asserted-Identity
 abbrev twoValues : Bool → Bool → Bool → List ℕ → List ℕ → Bool
-twoValues true isThree isFifteen v w = true
-twoValues false true isFifteen v w = isFrom v && (isFrom w && same (tagOf v) (tagOf w))
+twoValues true fromField identityField v w = true
+twoValues false true identityField v w = isFrom v && (isFrom w && same (tagOf v) (tagOf w))
 twoValues false false true v w = isIdentity v && isIdentity w
 twoValues false false false v w = false
 
@@ -64,15 +64,12 @@ module _ (f : Field) (w : List ℕ) (fs gs : List Field) (o : OtherCaller fs gs)
   two-froms n e =
       let a = and-right (isFrom c) (isFrom d && same (tagOf c) (tagOf d)) e in
       let t = same-eq (tagOf c) (tagOf d) (and-right (isFrom d) (same (tagOf c) (tagOf d)) a) in
-      let (u, x) = from-read c (tagOf d) .0 (and-left (isFrom c) (isFrom d && same (tagOf c) (tagOf d)) e, t) in
-      let (u′, y) = from-read d (tagOf d) .0 (and-left (isFrom d) (same (tagOf c) (tagOf d)) a, refl) in
-      other-from n x y o
+      any-value .of-from f w fs gs n (and-left (isFrom c) (isFrom d && same (tagOf c) (tagOf d)) e)
+      (and-left (isFrom d) (same (tagOf c) (tagOf d)) a) (sym t) o
 
   two-identities : numberOf (f .name) ≡ 15 → (isIdentity c && isIdentity d) ≡ true → OtherCaller (f ∷ fs) (withValue f w ∷ gs)
   two-identities n e =
-      let x = identity-read c (identity c) .0 (and-left (isIdentity c) (isIdentity d) e, refl) in
-      let y = identity-read d (identity d) .0 (and-right (isIdentity c) (isIdentity d) e, refl) in
-      other-identity n x y o
+      any-value .of-identity f w fs gs n (and-left (isIdentity c) (isIdentity d) e) (and-right (isIdentity c) (isIdentity d) e) o
 
   two-values : valuesOf f (withValue f w) ≡ true → OtherCaller (f ∷ fs) (withValue f w ∷ gs)
   two-values e = go (same (f .value) w) (eqb (numberOf (f .name)) 3) (eqb (numberOf (f .name)) 15) refl refl refl e
@@ -187,11 +184,12 @@ module _ (m m′ : List ℕ) (b : length m ≤ 8192) (b′ : length m′ ≤ 819
       go i t (some h) (some k) q r c =
           let d = and-right (same (h .rest) (k .rest)) _ c in
           headers-pair l p i t h k q r (same-eq (h .rest) (k .rest) (and-left (same (h .rest) (k .rest)) _ c))
-          (fields-pair (h .fields) (k .fields) (and-left (twoFields (h .fields) (k .fields)) _ d)) (any-withholds (messageColumn (request l) (h .fields)) (h .fields) (and-right (twoFields (h .fields) (k .fields)) _ d))
+          (fields-pair (h .fields) (k .fields) (and-left (twoFields (h .fields) (k .fields)) _ d))
+          (any-withholds (messageColumn (request l) (h .fields)) (h .fields) (and-right (twoFields (h .fields) (k .fields)) _ d))
 
-pub two-callers : (m m′ : List ℕ) → areTwoCallers m m′ ≡ true → TwoCallers m m′
+pub callers-found : (m m′ : List ℕ) → areTwoCallers m m′ ≡ true → TwoCallers m m′
 unfolding areTwoCallers
-two-callers m m′ e =
+callers-found m m′ e =
     let a = and-right (leb (length m) 8192) _ e in
     starts-pair m m′ (leb-true (length m) 8192 (and-left (leb (length m) 8192) _ e))
     (leb-true (length m′) 8192 (and-left (leb (length m′) 8192) _ a)) (start m) refl (and-right (leb (length m′) 8192) _ a)
@@ -211,10 +209,11 @@ found c s a b = record { callers = c; same = s; first = a; second = b }
 abbrev Computes : Pair → Type 0
 Computes (alike m m′ buffer gives) =
     found (areTwoCallers m m′) (same m m′) (screened m 1 buffer) (screened m′ 1 buffer) ≡ found true false gives gives
+-- of pairs that are apart it is not asked whether they are two callers
 Computes (apart m m′ side buffer gives gives′) =
     found true (same (gives .buffer) (gives′ .buffer)) (screened m side buffer) (screened m′ side buffer) ≡ found true false gives gives′
-Computes (handedBack hands m m′ text text′) =
-    found (areTwoCallers m m′) (same text text′) (hands m) (hands m′) ≡ found true false text text′
+Computes (handedBack hands m m′ part part′) =
+    found (areTwoCallers m m′) (same part part′) (hands m) (hands m′) ≡ found true false part part′
 
 pub data AllCompute : List Pair → Type 0 where
   no-more : AllCompute []
@@ -223,7 +222,7 @@ pub data AllCompute : List Pair → Type 0 where
 holds : (p : Pair) → Computes p → PairHolds p
 holds (alike m m′ buffer gives) e =
     record {
-      two-callers = two-callers m m′ (ap (λ (c : Found Screened). c .callers) e);
+      two-callers = callers-found m m′ (ap (λ (c : Found Screened). c .callers) e);
       bytes-differ = differ m m′ (ap (λ (c : Found Screened). c .same) e);
       first-gives = ap (λ (c : Found Screened). c .first) e;
       second-gives = ap (λ (c : Found Screened). c .second) e;
@@ -234,12 +233,12 @@ holds (apart m m′ side buffer gives gives′) e =
       second-gives = ap (λ (c : Found Screened). c .second) e;
       buffers-differ = differ (gives .buffer) (gives′ .buffer) (ap (λ (c : Found Screened). c .same) e);
     }
-holds (handedBack hands m m′ text text′) e =
+holds (handedBack hands m m′ part part′) e =
     record {
-      two-callers = two-callers m m′ (ap (λ (c : Found (List ℕ)). c .callers) e);
-      first-text = ap (λ (c : Found (List ℕ)). c .first) e;
-      second-text = ap (λ (c : Found (List ℕ)). c .second) e;
-      texts-differ = differ text text′ (ap (λ (c : Found (List ℕ)). c .same) e);
+      two-callers = callers-found m m′ (ap (λ (c : Found (List ℕ)). c .callers) e);
+      first-part = ap (λ (c : Found (List ℕ)). c .first) e;
+      second-part = ap (λ (c : Found (List ℕ)). c .second) e;
+      parts-differ = differ part part′ (ap (λ (c : Found (List ℕ)). c .same) e);
     }
 
 pub all-hold : {ps : List Pair} → AllCompute ps → PairsHold ps

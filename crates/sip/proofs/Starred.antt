@@ -1,5 +1,4 @@
--- Every starred case, every worked response, every worked Privacy and every worked pair of callers holds: both sides of each row compute to
--- the same, and so does the test for two callers.
+-- Every row of the four tables holds: both sides of each compute to the same, and the test for two callers computes to true.
 use mathlib.Core.Path.{refl}
 use Prim.Native.Nat.{ℕ}
 use Rattle.octets.specs.Classes.{text, isDigit, isHex, isToken, isUser, isParameter, isHost, isBlank, isBreak, isGap, isValue, isVisible}
@@ -26,7 +25,7 @@ use Rattle.sip.specs.Values.{isTo, isTagged, isFrom, tagOf, isGlobal, pe
 use Rattle.sip.specs.Values.{restricts, isRequire, requiredTags, firstPlace, isLacking, isShort, isCalled}
 use Rattle.causes.specs.Causes.{status, cause, statusEntries, classEnds, nextAbove, rowOf, statusOf, causeEntries, causeOf, listed, given, among}
 use Rattle.sip.specs.Starred.{AllHold, no-row, row}
-use Rattle.sip.proofs.Pairs.{differ, twoFields, anyWithholds, twoHeaders, twoStarts, areTwoCallers, two-callers, AllCompute, no-more, next, all-hold}
+use Rattle.sip.proofs.Pairs.{differ, twoFields, anyWithholds, twoHeaders, twoStarts, areTwoCallers, callers-found, AllCompute, no-more, next, all-hold}
 
 -- what the rows compute with: whoever unfolds this unfolds all of it
 unfoldable computed : ℕ
@@ -38,8 +37,8 @@ unfolding status cause statusEntries classEnds nextAbove rowOf statusOf causeEnt
     isUri reason8 firstRepeat reason9 wellFormed firstMalformed reason10 exceeds reason11 missingOf reason12 noHops reason13 allTags
     firstLacking reason14 reason15 reasons responseReasons judgedRequest firstCSeqMethod responseColumnOf judgedResponse judgement masks
     delivered screened linesOf callWith call printed blankBuffer starred responseWith written responses requestWith outgoing
-    callWithPrivacy masked unmasked privacies otherCall shown shortCall shortSent byeFrom byeSent manyFields spaces stretched pairs twoFields anyWithholds twoHeaders twoStarts
-    areTwoCallers valueSpan valueSpans spans count place readingAt reading callingNumber isEmpty isNumber isMaxForwards
+    callWithPrivacy masked unmasked privacies otherCall shown shortCall shortSent byeFrom byeSent manyFields spaces stretched pairs
+    twoFields anyWithholds twoHeaders twoStarts areTwoCallers valueSpan valueSpans spans count place readingAt reading callingNumber isEmpty isNumber isMaxForwards
     isContentLength isCSeq cseqMethod isCallId host port hostPort tail sipFrom sip tel uri display bracketed address sign paramValue
     paramRest param withParam stops params party isTo isTagged isFrom tagOf isGlobal person identity isIdentity tokens isPrivacy
     isRestricting restricts isRequire requiredTags firstPlace isLacking isShort isCalled
@@ -78,7 +77,7 @@ pairs-compute =
 
 pub other-call : OtherCall
 unfolding computed
-other-call = record { two-callers = two-callers call otherCall refl; bytes-differ = differ call otherCall refl }
+other-call = record { two-callers = callers-found call otherCall refl; bytes-differ = differ call otherCall refl }
 
 pub pairs-hold : PairsHold pairs
 pairs-hold = all-hold pairs-compute

@@ -1,6 +1,6 @@
 -- CR 5, "The digits cannot show": two INVITEs that differ in their caller alone. `DigitsHidden` says that on side 1 they have one answer and one
--- outgoing message, so that nothing there depends on P-Asserted-Identity, or on From but for its tag. All other fields, the tag and the body
--- go out as they are, whatever digits stand in them.
+-- outgoing message: of well-formed values, nothing there depends on P-Asserted-Identity, or on From but for its tag. What the other fields,
+-- the tag and the body say is not hidden, whatever digits stand in them.
 use mathlib.Core.Path.{_≡_}
 use mathlib.Core.List.{List, [], _∷_, _++_}
 use Prim.Native.Nat.{ℕ, _≤_}
@@ -19,7 +19,7 @@ withValue f v = record { name = f .name; gap = f .gap; value = v }
 
 -- The fields of the two messages, one to one and in order: "equal except for the values of P-Asserted-Identity and the part of From outside
 -- its tag parameter"; "these two values are well formed with the same tag". From has the number 3, P-Asserted-Identity the number 15. Of
--- From's two values the tag t alone is the same; the URIs u and u′, and the numbers n and n′ of two identities, may be any. So display names,
+-- From's two values the tag t alone has to be the same; the URIs u and u′, and the numbers n and n′ of two identities, may be any. So display names,
 -- URIs, other parameters, line breaks and outer blanks are free, and so is how the tag is written: `tag` in any letter case, blanks around
 -- its `;` and `=`, its place among the parameters. Where both have the same bytes only the shape is asked: an equal From may be malformed
 pub data OtherCaller : List Field → List Field → Type 0 where

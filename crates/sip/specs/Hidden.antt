@@ -1,4 +1,4 @@
--- CR 5, worked pairs: two callers who are screened alike, and pairs that differ since one of the request's words does not hold of them.
+-- CR 5, worked pairs: two callers who are screened alike, pairs that differ since a premise of CR 5 fails, and what stays outside of it.
 use mathlib.Core.Path.{_≡_}
 use mathlib.Core.List.{List, [], _∷_, _++_}
 use Prim.Native.Nat.{ℕ, zero, suc}
@@ -46,12 +46,12 @@ pub record Apart (m m′ : List ℕ) (side : ℕ) (buffer : List ℕ) (gives giv
   pub second-gives : screened m′ side buffer ≡ gives′
   pub buffers-differ : gives .buffer ≡ gives′ .buffer → ⊥
 
--- two callers: what is handed back of them differs
-pub record HandedBack (hands : List ℕ → List ℕ) (m m′ text text′ : List ℕ) : Type 0 where
+-- two callers: the parts that are handed back of them differ
+pub record HandedBack (hands : List ℕ → List ℕ) (m m′ part part′ : List ℕ) : Type 0 where
   pub two-callers : TwoCallers m m′
-  pub first-text : hands m ≡ text
-  pub second-text : hands m′ ≡ text′
-  pub texts-differ : text ≡ text′ → ⊥
+  pub first-part : hands m ≡ part
+  pub second-part : hands m′ ≡ part′
+  pub parts-differ : part ≡ part′ → ⊥
 
 pub data Pair : Type 0 where
   alike : List ℕ → List ℕ → List ℕ → Screened → Pair
@@ -61,7 +61,7 @@ pub data Pair : Type 0 where
 abbrev pub PairHolds : Pair → Type 0
 PairHolds (alike m m′ buffer gives) = Alike m m′ buffer gives
 PairHolds (apart m m′ side buffer gives gives′) = Apart m m′ side buffer gives gives′
-PairHolds (handedBack hands m m′ text text′) = HandedBack hands m m′ text text′
+PairHolds (handedBack hands m m′ part part′) = HandedBack hands m m′ part part′
 
 -- every row holds
 pub data PairsHold : List Pair → Type 0 where
@@ -106,14 +106,14 @@ shortSent from to others =
     ("INVITE sip:112@gw.example SIP/2.0" ∷ "Via: x" ∷ "Max-Forwards: 8" ∷ from ∷ to ∷ "Call-ID: 8" ∷ "CSeq: 1 INVITE" ∷ "Contact: x" ∷ "Allow: "
     ∷ others)
 
-abbrev hidden : String
-hidden = "From: \"Anonymous\" <sip:anonymous@anonymous.invalid>;tag=x"
+abbrev anonymousFrom : String
+anonymousFrom = "From: \"Anonymous\" <sip:anonymous@anonymous.invalid>;tag=x"
 
-abbrev untagged : String
-untagged = "To: <sip:112@gw.example>"
+abbrev plainTo : String
+plainTo = "To: <sip:112@gw.example>"
 
-abbrev tagged : String
-tagged = "To: <sip:112@gw.example>;tag=d4"
+abbrev taggedTo : String
+taggedTo = "To: <sip:112@gw.example>;tag=d4"
 
 abbrev ann : List String
 ann = "From: \"Ann\" <sip:+33187654321@h>;tag=x" ∷ []
@@ -130,23 +130,23 @@ bobsIdentity = "P-Asserted-Identity: tel:+4930123456" ∷ []
 -- both shorter calls with these From fields, these identities and these fields after the others are refused so
 abbrev shortRefused : List String → List String → List String → List String → List String → ℕ → ℕ → ℕ → ℕ → Pair
 shortRefused from from′ asserted asserted′ others reason reply detail missing =
-    alike (shortCall from untagged asserted ("Privacy: id" ∷ others)) (shortCall from′ untagged asserted′ ("Privacy: id" ∷ others))
+    alike (shortCall from plainTo asserted ("Privacy: id" ∷ others)) (shortCall from′ plainTo asserted′ ("Privacy: id" ∷ others))
     (blankBuffer 9216) (untouched reason reply detail missing 9216)
 
 -- the shorter calls on side 1: the first goes out masked, and the second gives that
 abbrev maskedBut : List String → List String → Screened → Pair
 maskedBut from asserted gives =
-    apart (shortCall ann untagged annsIdentity ("Privacy: id" ∷ [])) (shortCall from untagged asserted ("Privacy: id" ∷ [])) 1
-    (blankBuffer 9216) (sent 209 (shortSent hidden untagged ("Privacy: id" ∷ [])) 9216) gives
+    apart (shortCall ann plainTo annsIdentity ("Privacy: id" ∷ [])) (shortCall from plainTo asserted ("Privacy: id" ∷ [])) 1
+    (blankBuffer 9216) (sent 209 (shortSent anonymousFrom plainTo ("Privacy: id" ∷ [])) 9216) gives
 
 -- a BYE with this line for From, and what goes out of it
 unfoldable pub byeFrom : String → List ℕ
 byeFrom from =
     linesOf
-    ("BYE sip:112@gw.example SIP/2.0" ∷ "Via: x" ∷ "Max-Forwards: 9" ∷ from ∷ tagged ∷ "Call-ID: 8" ∷ "CSeq: 2 BYE" ∷ "Privacy: id" ∷ [])
+    ("BYE sip:112@gw.example SIP/2.0" ∷ "Via: x" ∷ "Max-Forwards: 9" ∷ from ∷ taggedTo ∷ "Call-ID: 8" ∷ "CSeq: 2 BYE" ∷ "Privacy: id" ∷ [])
 
 unfoldable pub byeSent : String → List ℕ
-byeSent from = linesOf ("BYE sip:112@gw.example SIP/2.0" ∷ "Via: x" ∷ "Max-Forwards: 8" ∷ from ∷ tagged ∷ "Call-ID: 8" ∷ "CSeq: 2 BYE" ∷ [])
+byeSent from = linesOf ("BYE sip:112@gw.example SIP/2.0" ∷ "Via: x" ∷ "Max-Forwards: 8" ∷ from ∷ taggedTo ∷ "Call-ID: 8" ∷ "CSeq: 2 BYE" ∷ [])
 
 unfoldable pub manyFields : ℕ → List String
 manyFields zero = []
@@ -159,7 +159,7 @@ spaces (suc n) = 32 ∷ spaces n
 -- the shorter call, of 239 bytes, with n spaces more before the value of its From
 unfoldable pub stretched : ℕ → List ℕ
 stretched n =
-    let m = shortCall ann untagged annsIdentity ("Privacy: id" ∷ []) in
+    let m = shortCall ann plainTo annsIdentity ("Privacy: id" ∷ []) in
     take 65 m ++ (spaces n ++ drop 65 m)
 
 unfoldable pub pairs : List Pair
@@ -175,27 +175,27 @@ pairs =
     ∷ alike (callWith smallVersion hops caller identity noBody) (callWith smallVersion hops otherFrom otherIdentity noBody)
     (blankBuffer 9216) (sent 337 (printed invite) 9216)
     -- withheld by `user` beside `none`
-    ∷ alike (shortCall ann untagged annsIdentity ("Privacy: none; User" ∷ [])) (shortCall bob untagged bobsIdentity ("Privacy: none; User" ∷ []))
-    (blankBuffer 9216) (sent 217 (shortSent hidden untagged ("Privacy: none; User" ∷ [])) 9216)
+    ∷ alike (shortCall ann plainTo annsIdentity ("Privacy: none; User" ∷ [])) (shortCall bob plainTo bobsIdentity ("Privacy: none; User" ∷ []))
+    (blankBuffer 9216) (sent 217 (shortSent anonymousFrom plainTo ("Privacy: none; User" ∷ [])) 9216)
     -- withheld by `header`; folds and blanks, tags in the display name, in the URI and in another parameter, a number of seven digits and
     -- one of fifteen
     ∷ alike
-    (shortCall ("From: \"b;tag=y\" <sip:h:1;tag=z>;tag=x" ∷ []) untagged ("P-Asserted-Identity: <sip:+1234567@h;p=q>" ∷ [])
+    (shortCall ("From: \"b;tag=y\" <sip:h:1;tag=z>;tag=x" ∷ []) plainTo ("P-Asserted-Identity: <sip:+1234567@h;p=q>" ∷ [])
     ("Privacy: header" ∷ []))
-    (shortCall ("From:\r\n\tsip:c@d\r\n ;p=\"tag=y\" ; Tag\t=\r\n x;q " ∷ []) untagged
+    (shortCall ("From:\r\n\tsip:c@d\r\n ;p=\"tag=y\" ; Tag\t=\r\n x;q " ∷ []) plainTo
     ("P-Asserted-Identity:\"<\\\">\"\r\n \r\n <tel:+123456789012345>\t" ∷ []) ("Privacy: header" ∷ []))
-    (blankBuffer 9216) (sent 213 (shortSent hidden untagged ("Privacy: header" ∷ [])) 9216)
+    (blankBuffer 9216) (sent 213 (shortSent anonymousFrom plainTo ("Privacy: header" ∷ [])) 9216)
     -- an INVITE whose To has a tag, without P-Asserted-Identity in both
-    ∷ alike (shortCall ("From: \"A\" <sip:a@b>;tag=x" ∷ []) tagged [] ("Privacy: id" ∷ []))
-    (shortCall ("From:\r\n sip:c@d ;p=q;TAG = x" ∷ []) tagged [] ("Privacy: id" ∷ [])) (blankBuffer 9216)
-    (sent 216 (shortSent hidden tagged ("Privacy: id" ∷ [])) 9216)
+    ∷ alike (shortCall ("From: \"A\" <sip:a@b>;tag=x" ∷ []) taggedTo [] ("Privacy: id" ∷ []))
+    (shortCall ("From:\r\n sip:c@d ;p=q;TAG = x" ∷ []) taggedTo [] ("Privacy: id" ∷ [])) (blankBuffer 9216)
+    (sent 216 (shortSent anonymousFrom taggedTo ("Privacy: id" ∷ [])) 9216)
     -- a body that is cut
-    ∷ alike (shortCall ann untagged annsIdentity ("Privacy: id" ∷ "l: 2" ∷ "c: a" ∷ []) ++ text "hello")
-    (shortCall bob untagged bobsIdentity ("Privacy: id" ∷ "l: 2" ∷ "c: a" ∷ []) ++ text "hello") (blankBuffer 9216)
-    (sent 247 (shortSent hidden untagged ("Privacy: id" ∷ "Content-Length: 2" ∷ "Content-Type: a" ∷ []) ++ text "he") 9216)
+    ∷ alike (shortCall ann plainTo annsIdentity ("Privacy: id" ∷ "l: 2" ∷ "c: a" ∷ []) ++ text "hello")
+    (shortCall bob plainTo bobsIdentity ("Privacy: id" ∷ "l: 2" ∷ "c: a" ∷ []) ++ text "hello") (blankBuffer 9216)
+    (sent 247 (shortSent anonymousFrom plainTo ("Privacy: id" ∷ "Content-Length: 2" ∷ "Content-Type: a" ∷ []) ++ text "he") 9216)
     -- 96 fields
-    ∷ alike (shortCall ann untagged annsIdentity ("Privacy: id" ∷ manyFields 86)) (shortCall bob untagged bobsIdentity ("Privacy: id" ∷ manyFields 86))
-    (blankBuffer 9216) (sent 209 (shortSent hidden untagged ("Privacy: id" ∷ [])) 9216)
+    ∷ alike (shortCall ann plainTo annsIdentity ("Privacy: id" ∷ manyFields 86)) (shortCall bob plainTo bobsIdentity ("Privacy: id" ∷ manyFields 86))
+    (blankBuffer 9216) (sent 209 (shortSent anonymousFrom plainTo ("Privacy: id" ∷ [])) 9216)
     -- refusals: more than 96 fields, another scheme, no URI
     ∷ shortRefused ann bob annsIdentity bobsIdentity (manyFields 87) 5 0 0 0
     ∷ bothRefused "INVITE http:x SIP/2.0" hops noBody 7 416 0 0
@@ -223,28 +223,28 @@ pairs =
     (shown "From: \"Doe, J\" <sip:+4930123456@relay.example>;tag=a1" "P-Asserted-Identity: \"Doe, J\" <sip:+4930123456@relay.example>")
     9216)
     -- "both withheld": two INVITEs that are not, and two BYEs, in which Privacy is ignored
-    ∷ apart (shortCall ann untagged annsIdentity ("Privacy: none" ∷ [])) (shortCall bob untagged bobsIdentity ("Privacy: none" ∷ [])) 1
+    ∷ apart (shortCall ann plainTo annsIdentity ("Privacy: none" ∷ [])) (shortCall bob plainTo bobsIdentity ("Privacy: none" ∷ [])) 1
     (blankBuffer 9216)
-    (sent 241 (shortSent "From: \"Ann\" <sip:+33187654321@h>;tag=x" untagged (annsIdentity ++ ("Privacy: none" ∷ []))) 9216)
-    (sent 232 (shortSent "From: Bob B. <tel:+4930123456>;q;TAG\t= x" untagged (bobsIdentity ++ ("Privacy: none" ∷ []))) 9216)
+    (sent 241 (shortSent "From: \"Ann\" <sip:+33187654321@h>;tag=x" plainTo (annsIdentity ++ ("Privacy: none" ∷ []))) 9216)
+    (sent 232 (shortSent "From: Bob B. <tel:+4930123456>;q;TAG\t= x" plainTo (bobsIdentity ++ ("Privacy: none" ∷ []))) 9216)
     ∷ apart (byeFrom "From: <sip:+33187654321@h>;tag=x") (byeFrom "From: <sip:+4930123456@h>;tag=x") 1 (blankBuffer 9216)
     (sent 151 (byeSent "From: <sip:+33187654321@h>;tag=x") 9216) (sent 150 (byeSent "From: <sip:+4930123456@h>;tag=x") 9216)
     -- "the same tag": the letter case of its value counts
     ∷ maskedBut ("From: \"Ann\" <sip:+33187654321@h>;tag=X" ∷ []) annsIdentity
-    (sent 209 (shortSent "From: \"Anonymous\" <sip:anonymous@anonymous.invalid>;tag=X" untagged ("Privacy: id" ∷ [])) 9216)
-    -- "well formed": From is not in the second, and P-Asserted-Identity is not or is absent there
+    (sent 209 (shortSent "From: \"Anonymous\" <sip:anonymous@anonymous.invalid>;tag=X" plainTo ("Privacy: id" ∷ [])) 9216)
+    -- "well formed": in the second From is malformed, then P-Asserted-Identity is, then that is absent
     ∷ maskedBut ("From: \"Ann\" <sip:+33187654321@>;tag=x" ∷ []) annsIdentity (untouched 10 400 3 0 9216)
     ∷ maskedBut ann ("P-Asserted-Identity: tel:+493012" ∷ []) (untouched 10 400 15 0 9216)
     ∷ maskedBut ann [] (untouched 12 400 15 1 9216)
     -- "well-shaped fields": a lone LF, which the canonical value no longer shows
     ∷ maskedBut ("From: \"An\nn\" <sip:+33187654321@h>;tag=x" ∷ []) annsIdentity (untouched 4 0 0 0 9216)
     -- "Both messages keep to 8,192 bytes"
-    ∷ apart (shortCall ann untagged annsIdentity ("Privacy: id" ∷ [])) (stretched 7954) 1 (blankBuffer 9216)
-    (sent 209 (shortSent hidden untagged ("Privacy: id" ∷ [])) 9216) (untouched 2 0 0 0 9216)
+    ∷ apart (shortCall ann plainTo annsIdentity ("Privacy: id" ∷ [])) (stretched 7954) 1 (blankBuffer 9216)
+    (sent 209 (shortSent anonymousFrom plainTo ("Privacy: id" ∷ [])) 9216) (untouched 2 0 0 0 9216)
     -- "equal except for the values": another To
-    ∷ apart (shortCall ann untagged annsIdentity ("Privacy: id" ∷ [])) (shortCall ann "To: <sip:113@gw.example>" annsIdentity ("Privacy: id" ∷ [])) 1
-    (blankBuffer 9216) (sent 209 (shortSent hidden untagged ("Privacy: id" ∷ [])) 9216)
-    (sent 209 (shortSent hidden "To: <sip:113@gw.example>" ("Privacy: id" ∷ [])) 9216)
+    ∷ apart (shortCall ann plainTo annsIdentity ("Privacy: id" ∷ [])) (shortCall ann "To: <sip:113@gw.example>" annsIdentity ("Privacy: id" ∷ [])) 1
+    (blankBuffer 9216) (sent 209 (shortSent anonymousFrom plainTo ("Privacy: id" ∷ [])) 9216)
+    (sent 209 (shortSent anonymousFrom "To: <sip:113@gw.example>" ("Privacy: id" ∷ [])) 9216)
     -- "The calling number and raw readings stay outside this."
     ∷ handedBack (λ (m : List ℕ). callingNumber m (text "+33111111111")) call otherCall (text "+33187654321") (text "+4930123456")
     ∷ handedBack (λ (m : List ℕ). reading m 3 1) call otherCall (text "<sip:+33187654321@relay.example>;tag=a1")

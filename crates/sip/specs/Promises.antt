@@ -1,21 +1,21 @@
 -- The large promises over the definitions, as statements; their proofs are in proofs/.
 use mathlib.Core.Path.{_≡_}
 use mathlib.Core.Bool.{Bool, true, false}
-use mathlib.Core.List.{List}
+use mathlib.Core.List.{List, _∷_}
 use mathlib.Core.Option.{some}
 use Prim.Native.Nat.{ℕ, _+_, _<_}
 use lib.ListN.{length, take}
 use Rattle.octets.specs.Classes.{text}
 use Rattle.sip.specs.declared.Column.the-variants.{Invite, Reinvite}
-use Rattle.sip.specs.Lines.{RequestLine, StatusLine, requestLine, statusLine, Start, request, response, start, startSize, Header}
-use Rattle.sip.specs.Profile.{ignored}
+use Rattle.sip.specs.Lines.{RequestLine, StatusLine, requestLine, statusLine, Start, request, response, start, startSize, Field, Header, canonical}
+use Rattle.sip.specs.Profile.{numberOf, ignored}
 use Rattle.sip.specs.Refusals.{Answer, lines, read, headerLines, withheld, Passed, messageColumn, keptOf, judgement, accepted}
-use Rattle.sip.specs.Values.{isGlobal}
+use Rattle.sip.specs.Values.{isFrom, tagOf, isIdentity, isGlobal}
 use Rattle.sip.specs.Output.{output}
 use Rattle.sip.specs.Screen.{screened}
 use Rattle.sip.specs.Readings.{callingNumber}
 use Rattle.sip.specs.Change.{Changed}
-use Rattle.sip.specs.Callers.{OtherCaller, TwoCallers}
+use Rattle.sip.specs.Callers.{withValue, OtherCaller, TwoCallers}
 
 -- CR 1: a start line is a request line or a status line (RFC 3261, start-line), and no text is both
 abbrev pub OneKind : Type 0
@@ -81,8 +81,19 @@ DigitsHidden = (m m′ buffer : List ℕ) → TwoCallers m m′ → screened m�
 abbrev pub EitherWay : Type 0
 EitherWay = (m m′ : List ℕ) → TwoCallers m m′ → TwoCallers m′ m
 
--- No pair that reads is left out of CR 5: two messages with the same bytes before their fields and after them are two callers where these
--- fields differ in the caller alone, the method is INVITE, and the first is withheld as `screened` takes it
+-- No value is left out of CR 5: any two values of From that `screened` takes for well formed, with one tag, and any two such values of
+-- P-Asserted-Identity may stand in two callers
+pub record AnyValue : Type 0 where
+  pub of-from :
+      (f : Field) (w : List ℕ) (fs gs : List Field) → numberOf (f .name) ≡ 3 → isFrom (canonical (f .value)) ≡ true
+      → isFrom (canonical w) ≡ true → tagOf (canonical w) ≡ tagOf (canonical (f .value)) → OtherCaller fs gs
+      → OtherCaller (f ∷ fs) (withValue f w ∷ gs)
+  pub of-identity :
+      (f : Field) (w : List ℕ) (fs gs : List Field) → numberOf (f .name) ≡ 15 → isIdentity (canonical (f .value)) ≡ true
+      → isIdentity (canonical w) ≡ true → OtherCaller fs gs → OtherCaller (f ∷ fs) (withValue f w ∷ gs)
+
+-- no pair that reads: two messages with the same bytes before their fields and after them are two callers where the fields are so related,
+-- the method is INVITE, and the first is withheld as `screened` takes it
 abbrev pub EveryPair : Type 0
 EveryPair =
     (m m′ : List ℕ) (l : RequestLine) (h h′ : Header) → lines m ≡ read (request l) h → lines m′ ≡ read (request l) h′

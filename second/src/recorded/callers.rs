@@ -86,7 +86,7 @@ fn longest() -> Vec<[Vec<u8>; 2]> {
     vec![[short, one.clone()], [one, two], [three, four]]
 }
 
-/// With every fault that leaves both values well formed.
+/// With a fault for each reason that two such messages can have but 16.
 fn refused() -> Vec<[Vec<u8>; 2]> {
     let [initial, later, without] = invites();
     let long = "\"Alice, or \\\"A\\\"\"\r\n <sip:a@h;tag=in>;x=\"tag=no\"\r\n ;TAG = q7";

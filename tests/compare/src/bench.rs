@@ -169,7 +169,7 @@ impl Bench {
         self.counts.met(Met::ShownOther, !masked && asked.has_one_byte_other());
     }
 
-    /// Any side, mostly one of the two.
+    /// A side, mostly 0 or 1, and a room.
     fn lent(&mut self, dice: &mut Dice, message: &[u8]) -> Lent {
         let side = if dice.one_in(100) { *dice.pick(&[2, 3, 255, 256, 257, 1 << 32, (1 << 32) + 1, u64::MAX]) } else { dice.below(2) as u64 };
         self.lent_on(dice, side, message)
@@ -238,7 +238,7 @@ impl Bench {
         }
     }
 
-    /// The numbers and the buffer of both messages are the same, library against library, and the second one too. The numbers.
+    /// The numbers and the buffer of both messages are the same, library against library, and the second one too. Hands back the numbers.
     fn same_answer(&mut self, what: &str, message: &[u8], changed: &[u8], lent: Lent) -> [u64; 5] {
         let numbers = self.screen(message, lent);
         let out = self.out.part(lent.room, lent.against).to_vec();

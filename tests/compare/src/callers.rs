@@ -22,7 +22,7 @@ struct Read<'a> {
 }
 
 impl<'a> Callers<'a> {
-    /// "two INVITEs, both withheld, equal except for the values of P-Asserted-Identity and the part of From outside its tag parameter.
+    /// "two INVITEs .. both withheld, equal except for the values of P-Asserted-Identity and the part of From outside its tag parameter.
     /// Both messages keep to 8,192 bytes and well-shaped fields; these two values are well formed with the same tag."
     pub fn of(one: &'a Draft, other: &'a Draft) -> Option<Callers<'a>> {
         let lengths = [one, other].map(|draft| draft.bytes().len());
@@ -131,11 +131,12 @@ fn differ_in_the_caller_alone(one: &Read, other: &Read) -> bool {
     let before_colon = |read: &Read| read.field.rest.split(|&byte| byte == b':').next().map(|blanks| blanks.to_vec());
     let same_front = one.field.name == other.field.name && before_colon(one) == before_colon(other);
     let identified = |read: &Read| address::asserted_number(&read.value).is_some();
-    match one.field.number() {
-        3 => same_front && tag(&one.value).is_some() && tag(&one.value) == tag(&other.value),
-        15 => same_front && identified(one) && identified(other),
-        _ => one.field == other.field,
-    }
+    one.field == other.field
+        || match one.field.number() {
+            3 => same_front && tag(&one.value).is_some() && tag(&one.value) == tag(&other.value),
+            15 => same_front && identified(one) && identified(other),
+            _ => false,
+        }
 }
 
 fn tag(value: &[u8]) -> Option<&[u8]> {

@@ -25,9 +25,9 @@ pub fn two_callers(dice: &mut Dice) -> [Draft; 2] {
         }
     }
     // The first, the second, both, and mostly none.
-    let full = *dice.pick(&[1, 2, 3]) * usize::from(dice.one_in(20));
+    let full: &[usize] = if dice.one_in(20) { dice.pick(&[&[0][..], &[1], &[0, 1]]) } else { &[] };
     for (place, draft) in pair.iter_mut().enumerate() {
-        if full & (1 << place) != 0 {
+        if full.contains(&place) {
             fill(dice, draft);
         }
     }
