@@ -120,6 +120,11 @@ lines-like body (two-identities a b l) = lines-like body l
 
 -- ---- the whole judgement
 
+-- on side 1 the withheld are masked
+masked : (es : List Entry) (k : Start) (rest : List ℕ) → withheld es ≡ true → masks 1 (passed k es rest) ≡ true
+unfolding masks
+masked es k rest w = cc
+
 module _ {es ds : List Entry} (l : Like es ds) where
   length-like : contentLength ds ≡ contentLength es
   unfolding contentLength
@@ -179,15 +184,17 @@ module _ {es ds : List Entry} (l : Like es ds) where
 
   judged-like : (k : RequestLine) (rest buffer : List ℕ) → (judgedRequest k es rest ≡ accepted (passed (request k) es rest) → withheld es ≡ true)
       → concluded 1 buffer (judgedRequest k ds rest) ≡ concluded 1 buffer (judgedRequest k es rest)
-  unfolding judgedRequest delivered masks
+  unfolding judgedRequest delivered
   judged-like k rest buffer w = go (columnOf (k .method) (toTagged es)) refl
     where
       next : (c : Column) → columnOf (k .method) (toTagged es) ≡ some c → (o : Option Answer) → firstOf (reasons c k es rest) ≡ o
           → concluded 1 buffer (judgedRequest k ds rest) ≡ concluded 1 buffer (judgedRequest k es rest)
       next c p (some a) q = rw (judgedRequest, tagged-like, p, reasons-like c k rest, q)
       next c p none q =
-          let a : judgedRequest k es rest ≡ accepted (passed (request k) es rest) = rw (judgedRequest, p, q) in
-          rw (judgedRequest, tagged-like, p, reasons-like c k rest, q, withheld-like, w a, output-like (request k) rest)
+          let a : withheld es ≡ true = w (rw (judgedRequest, p, q)) in
+          let x = masked es (request k) rest a in
+          let y = masked ds (request k) rest (withheld-like ∙ a) in
+          rw (judgedRequest, tagged-like, p, reasons-like c k rest, q, x, y, output-like (request k) rest)
 
       go : (o : Option Column) → columnOf (k .method) (toTagged es) ≡ o
           → concluded 1 buffer (judgedRequest k ds rest) ≡ concluded 1 buffer (judgedRequest k es rest)
