@@ -25,7 +25,7 @@ pub fn two_callers(dice: &mut Dice) -> [Draft; 2] {
         }
     }
     // The first, the second, both, and mostly none.
-    let full: &[usize] = if dice.one_in(20) { dice.pick(&[&[0][..], &[1], &[0, 1]]) } else { &[] };
+    let full: &[usize] = if dice.one_in(20) { *dice.pick(&[&[0][..], &[1], &[0, 1]]) } else { &[] };
     for (place, draft) in pair.iter_mut().enumerate() {
         if full.contains(&place) {
             fill(dice, draft);
