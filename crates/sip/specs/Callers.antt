@@ -19,9 +19,10 @@ withValue f v = record { name = f .name; gap = f .gap; value = v }
 
 -- The fields of the two messages, one to one and in order: "equal except for the values of P-Asserted-Identity and the part of From outside
 -- its tag parameter"; "these two values are well formed with the same tag". From has the number 3, P-Asserted-Identity the number 15. Of
--- From's two values the tag t alone has to be the same; the URIs u and u′, and the numbers n and n′ of two identities, may be any. So display names,
--- URIs, other parameters, line breaks and outer blanks are free, and so is how the tag is written: `tag` in any letter case, blanks around
--- its `;` and `=`, its place among the parameters. Where both have the same bytes only the shape is asked: an equal From may be malformed
+-- From's two values the tag t alone has to be the same; the URIs u and u′, and the numbers n and n′ of two identities, may be any. So
+-- display names, URIs, other parameters, line breaks and outer blanks are free, and so is how the tag is written: `tag` in any letter case,
+-- blanks around its `;` and `=`, its place among the parameters. Where both have the same bytes only the shape is asked: an equal From may
+-- be malformed
 pub data OtherCaller : List Field → List Field → Type 0 where
   no-fields : OtherCaller [] []
   equal : {f : Field} {fs gs : List Field} → OtherCaller fs gs → OtherCaller (f ∷ fs) (f ∷ gs)
