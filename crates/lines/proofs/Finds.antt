@@ -13,13 +13,14 @@ use Rattle.octets.specs.Scans.{run, sameText}
 use Rattle.sip.specs.Lines.{startSize, startsCRLF, Shape, shape, size, Field, fieldOf, Header, withField, header}
 use Rattle.sip.specs.Readings.{named, hasField}
 use Rattle.sip.proofs.ValueSizes.{not-none}
+use Rattle.sip.proofs.Change.{lines-inv}
 use Rattle.lines.specs.Places.{fieldAt}
 use Rattle.lines.specs.Finds.{namedFrom, fieldNamed, FieldNamedRead}
 use Rattle.lines.specs.declared.FieldAt.{FieldAt}
 use Rattle.lines.specs.declared.FieldAt.the-variants.{Found, Bad}
 use Rattle.lines.proofs.Values.{never}
 use Rattle.lines.proofs.Fields.{FieldRead, field-bad, field-read, field-fits}
-use Rattle.lines.proofs.Headers.{lines-read, field-line}
+use Rattle.lines.proofs.Headers.{field-line}
 use Rattle.lines.proofs.FirstLines.{first-line}
 
 -- ---- the fields at the front
@@ -125,5 +126,5 @@ header-named name zero (b ∷ s) h e = go (startsCRLF (b ∷ s)) (shape (b ∷ s
 pub field-named-read : FieldNamedRead
 unfolding fieldNamed hasField
 field-named-read m name l h e =
-    let (s, f) = lines-read m l h e in
-    rw (e, ← first-line m l s) (header-named name 0 (drop (startSize l) m) h f)
+    let r = lines-inv m l h e in
+    rw (e, ← first-line m l (r .has-start)) (header-named name 0 (drop (startSize l) m) h (r .has-header))

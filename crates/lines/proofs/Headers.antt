@@ -1,16 +1,15 @@
 -- The lines of a message by its length and its start line; and the header at a place, by the empty line or the field that stands there.
 use mathlib.Core.Path.{_≡_, refl, _∙_}
-use mathlib.Core.Bool.{Bool, true, false, cond}
+use mathlib.Core.Bool.{Bool, true, false}
 use mathlib.Core.List.{List, [], _∷_}
-use mathlib.Core.Option.{Option, none, some}
+use mathlib.Core.Option.{none, some}
 use Prim.Native.Nat.{ℕ, _+_, _≤_, _<_}
 use native.Mathlib.Omega.{arith}
-use lib.Dec.{leb}
 use lib.ListN.{length, drop}
 use lib.Seq.{drop-drop}
 use borrow.Author.Tests.{le-leb, lt-leb}
-use Rattle.sip.specs.Lines.{Start, start, startSize, startsCRLF, Shape, shape, size, fieldOf, Header, withField, header}
-use Rattle.sip.specs.Refusals.{unread, read, lines, headerLines}
+use Rattle.sip.specs.Lines.{Start, start, startSize, startsCRLF, Shape, shape, size, fieldOf, withField, header}
+use Rattle.sip.specs.Refusals.{unread, lines, headerLines}
 use Rattle.sip.proofs.Fields.{no-crlf, field-here}
 use Rattle.sip.proofs.Headers.{header-next}
 use Rattle.lines.specs.Passes.{startLengths}
@@ -32,27 +31,6 @@ module _ (m : List ℕ) (l : length m ≤ 8192) where
   pub lines-begun : (k : Start) → start m ≡ some k → lines m ≡ headerLines k (header 0 (drop (startSize k) m))
   unfolding lines
   lines-begun k r = rw (le-leb (length m) 8192 l, r)
-
--- a message that is read has this start line and this header
-pub lines-read : (m : List ℕ) (l : Start) (h : Header) → lines m ≡ read l h → (start m ≡ some l) × (header 0 (drop (startSize l) m) ≡ some h)
-unfolding lines
-lines-read m l h e = go (leb (length m) 8192) (start m) refl refl
-  where
-    Both : Type 0
-    Both = (start m ≡ some l) × (header 0 (drop (startSize l) m) ≡ some h)
-
-    few : (k : Start) (g : Header) (t : Bool) → start m ≡ some k → header 0 (drop (startSize k) m) ≡ some g → cond t (read k g) (unread 5) ≡ read l h → Both
-    few k g true q x y = let a : k ≡ l = cc in let b : g ≡ h = cc in rw (← a, ← b) (q, x)
-    few k g false q x y = never (cc)
-
-    fields : (k : Start) (o : Option Header) → start m ≡ some k → header 0 (drop (startSize k) m) ≡ o → headerLines k o ≡ read l h → Both
-    fields k none q x y = never (cc)
-    fields k (some g) q x y = few k g (leb (length (g .fields)) 96) q x y
-
-    go : (t : Bool) (o : Option Start) → leb (length m) 8192 ≡ t → start m ≡ o → Both
-    go true (some k) p q = fields k (header 0 (drop (startSize k) m)) q refl (rw (p, q) at e)
-    go true none p q = let z : unread 3 ≡ read l h = rw (p, q) at e in never (cc)
-    go false o p q = let z : unread 2 ≡ read l h = rw p at e in never (cc)
 
 -- ---- the header at a place
 

@@ -1,28 +1,29 @@
 -- CR 5: of From and P-Asserted-Identity no reason and no masked line sees more than that they are well formed, and From's tag.
 use mathlib.Core.Path.{_≡_, refl, sym, ap, _∙_}
 use mathlib.Core.Bool.{Bool, true, false, cond}
-use mathlib.Core.List.{List, [], _∷_, _++_}
+use mathlib.Core.List.{List, [], _∷_}
 use mathlib.Core.Option.{Option, none, some}
-use Prim.Native.Nat.{ℕ, suc}
+use Prim.Native.Nat.{ℕ, suc, _≤_}
 use lib.Dec.{eqb, leb}
-use lib.ListN.{length, take}
+use lib.ListN.{length, take, drop, take-append-drop}
+use Rattle.octets.specs.Classes.{text}
 use Rattle.sip.specs.declared.Column.{Column}
-use Rattle.sip.specs.Lines.{RequestLine, Start, request, startBytes, startSize, Field, Header, canonical}
+use Rattle.sip.specs.Lines.{RequestLine, Start, request, start, startBytes, startSize, Field, Header, header, canonical}
 use Rattle.sip.specs.Profile.{numberOf, columnOf, ignored, numbers}
 use Rattle.sip.specs.Values.{isEmpty, isFrom, tagOf, isIdentity, identity}
 use Rattle.sip.specs.Refusals.{Answer, Entry, kept, valueOf, occurs, toTagged, withheld, contentLength, bodyOf, firstRepeat, reason9}
 use Rattle.sip.specs.Refusals.{wellFormed, firstMalformed, reason10, exceeds, reason11, missingOf, reason12, noHops, reason13, allTags}
-use Rattle.sip.specs.Refusals.{firstLacking, reason14, firstOf, reasons, passed, accepted, read, lines, judgedRequest, keptOf, judgement}
+use Rattle.sip.specs.Refusals.{firstLacking, reason14, firstOf, reasons, passed, accepted, read, lines, judgedRequest, messageColumn, keptOf, judgement}
 use Rattle.sip.specs.Output.{sentValue, fieldLines, output}
 use Rattle.sip.specs.Screen.{masks, delivered, concluded, screened}
-use Rattle.sip.specs.Change.{RequestShaped, headerBytes}
-use Rattle.sip.specs.Callers.{OtherCaller, no-fields, equal, other-from, other-identity}
+use Rattle.sip.specs.Callers.{OtherCaller, no-fields, equal, other-from, other-identity, TwoCallers}
 use Rattle.sip.specs.Grammar.{HoldsAny, here, later}
 use Rattle.sip.specs.GrammarPromises.{Withholding}
 use Rattle.sip.specs.Promises.{DigitsHidden, EitherWay, AnyValue, EveryPair, CallersRead, NoOtherPair}
 use Rattle.sip.proofs.Tests.{never}
-use Rattle.sip.proofs.Starts.{request-taken}
-use Rattle.sip.proofs.Change.{lines-shaped, everything}
+use Rattle.sip.proofs.Starts.{request-taken, start-here}
+use Rattle.sip.proofs.Headers.{header-here}
+use Rattle.sip.proofs.Change.{lines-shaped, lines-inv}
 use Rattle.sip.proofs.Grammar.Promises.{from-read, identity-read}
 use Rattle.sip.proofs.Grammar.Withheld.{withheld-found, withheld-read}
 
@@ -296,37 +297,39 @@ either-way m m′ c =
       is-withheld = other-withheld (columnOf (c .line .method) false) (c .other-caller) (c .is-withheld);
     }
 
+-- two callers, from what is found in two messages
+module _ (m m′ : List ℕ) (b : length m ≤ 8192) (b′ : length m′ ≤ 8192) where
+  pub pair-found : (l : RequestLine) → start m ≡ some (request l) → l .method ≡ text "INVITE"
+      → take (startSize (request l)) m ≡ take (startSize (request l)) m′ → (h k : Header) → header 0 (drop (startSize (request l)) m) ≡ some h
+      → header 0 (drop (startSize (request l)) m′) ≡ some k → h .rest ≡ k .rest → OtherCaller (h .fields) (k .fields)
+      → HoldsAny (Withholding (messageColumn (request l) (h .fields))) (h .fields) → TwoCallers m m′
+  pair-found l p i t h k q r e o w =
+      let n = startSize (request l) in
+      let s = start-here m (request l) p in
+      let x = header-here 0 (drop n m) h q in
+      let y = header-here 0 (drop n m′) k r in
+      let z : take n m ≡ startBytes (request l) (s .version) = ap (take n) (sym (s .here)) ∙ request-taken l (s .version) (drop n m) (s .shaped) in
+      record {
+        line = l;
+        version = s .version;
+        fields = h .fields;
+        fields′ = k .fields;
+        rest = h .rest;
+        an-invite = i;
+        start-shaped = s .shaped;
+        all-shaped = x .shaped;
+        all-shaped′ = y .shaped;
+        other-caller = o;
+        first = rw (x .here) (sym (s .here));
+        second = rw (e, y .here, ← z, t) (sym (take-append-drop n m′));
+        within-bytes = b;
+        within-bytes′ = b′;
+        is-withheld = w;
+      }
+
 pub every-pair : EveryPair
 every-pair m m′ l h h′ e e′ t b o i w =
-    let r = everything m (request l) h e in
-    let r′ = everything m′ (request l) h′ e′ in
-    let c = r .change in
-    let c′ = r′ .change in
-    let s : RequestShaped l (c .version) = rw (r .same-line) at (c .start-shaped) in
-    let s′ : RequestShaped l (c′ .version) = rw (r′ .same-line) at (c′ .start-shaped) in
-    let p : m ≡ startBytes (request l) (c .version) ++ headerBytes (h .fields) (h .rest) =
-    rw (r .same-line, r .same-fields, r .same-rest) at (c .original) in
-    let q : m′ ≡ startBytes (request l) (c′ .version) ++ headerBytes (h′ .fields) (h′ .rest) =
-    rw (r′ .same-line, r′ .same-fields, r′ .same-rest) at (c′ .original) in
-    let n = startSize (request l) in
-    let k : take n m ≡ startBytes (request l) (c .version) = ap (take n) p ∙ request-taken l (c .version) (headerBytes (h .fields) (h .rest)) s in
-    let k′ : take n m′ ≡ startBytes (request l) (c′ .version) =
-    ap (take n) q ∙ request-taken l (c′ .version) (headerBytes (h′ .fields) (h′ .rest)) s′ in
-    let v : startBytes (request l) (c′ .version) ≡ startBytes (request l) (c .version) = sym k′ ∙ sym t ∙ k in
-    record {
-      line = l;
-      version = c .version;
-      fields = h .fields;
-      fields′ = h′ .fields;
-      rest = h .rest;
-      an-invite = i;
-      start-shaped = s;
-      all-shaped = rw (r .same-fields) at (c .all-shaped);
-      all-shaped′ = rw (r′ .same-fields) at (c′ .all-shaped);
-      other-caller = o;
-      first = p;
-      second = rw (v, sym b) at q;
-      within-bytes = c .within-bytes;
-      within-bytes′ = c′ .within-bytes;
-      is-withheld = withheld-found (columnOf (l .method) false) (h .fields) w;
-    }
+    let r = lines-inv m (request l) h e in
+    let r′ = lines-inv m′ (request l) h′ e′ in
+    pair-found m m′ (r .within-bytes) (r′ .within-bytes) l (r .has-start) i t h h′ (r .has-header) (r′ .has-header) b o
+    (withheld-found (columnOf (l .method) false) (h .fields) w)

@@ -15,7 +15,7 @@ use Rattle.sip.specs.declared.Column.the-variants.{Invite, Reinvite, Ack
 use Rattle.sip.specs.Refusals.{unread, read, headerLines, lines, kept, valueOf, firstCSeqMethod, responseColumnOf, messageColumn, keptOf, judgement}
 use Rattle.sip.specs.Screen.{screened}
 use Rattle.sip.specs.Change.{StartShaped, AllShaped, none-left, one-more, headerBytes, Varied, no-fields, unchanged, added, renamed, Changed}
-use Rattle.sip.specs.Promises.{Demand3, SameColumn, ReadAs, Everything, NothingElse}
+use Rattle.sip.specs.Promises.{Demand3, SameColumn, Everything, NothingElse}
 use Rattle.sip.proofs.Headers.{header-bytes, header-here}
 use Rattle.sip.proofs.Starts.{start-rest, start-bytes, start-here}
 use Rattle.sip.proofs.Names.{listed-name}
@@ -143,54 +143,67 @@ demand3 m m′ side buffer c = rw (alike m m′ c)
 unread-read : {A : Type 0} {n : ℕ} {l : Start} {h : Header} → unread n ≡ read l h → A
 unread-read e = let z : _≡_ {A = ℕ} 0 1 = cc in absurd (omega arith)
 
-pub everything : Everything
-unfolding lines
-everything m l h e = go (leb (length m) 8192) (start m) refl refl
-  where
-    -- a message that reads is changed into itself
-    itself : length m ≤ 8192 → start m ≡ some l → header 0 (drop (startSize l) m) ≡ some h → length (h .fields) ≤ 96 → ReadAs m l h
-    itself b p q f =
-        let s = start-here m l p in
-        let a = header-here 0 (drop (startSize l) m) h q in
-        let whole : m ≡ startBytes l (s .version) ++ headerBytes (h .fields) (h .rest) =
-        sym (ap (λ (x : List ℕ). startBytes l (s .version) ++ x) (a .here) ∙ s .here) in
-        record {
-          change =
-              record {
-                line = l;
-                version = s .version;
-                fields = h .fields;
-                fields′ = h .fields;
-                rest = h .rest;
-                start-shaped = s .shaped;
-                all-shaped = a .shaped;
-                varied = varied-same (ignored (messageColumn l (h .fields))) (h .fields);
-                original = whole;
-                changed = whole;
-                within-bytes = b;
-                within-bytes′ = b;
-                within-fields = f;
-                within-fields′ = f;
-              };
-          same-line = refl;
-          same-fields = refl;
-          same-rest = refl;
-        }
+-- what a message has that reads
+pub record LinesRead (m : List ℕ) (l : Start) (h : Header) : Type 0 where
+  pub within-bytes : length m ≤ 8192
+  pub has-start : start m ≡ some l
+  pub has-header : header 0 (drop (startSize l) m) ≡ some h
+  pub within-fields : length (h .fields) ≤ 96
 
+pub lines-inv : (m : List ℕ) (l : Start) (h : Header) → lines m ≡ read l h → LinesRead m l h
+unfolding lines
+lines-inv m l h e = go (leb (length m) 8192) (start m) refl refl
+  where
     fewer : (k : Start) (r : Header) (t : Bool) → leb (length m) 8192 ≡ true → start m ≡ some k → header 0 (drop (startSize k) m) ≡ some r
-        → leb (length (r .fields)) 96 ≡ t → ReadAs m l h
+        → leb (length (r .fields)) 96 ≡ t → LinesRead m l h
     fewer k r false b p q f = unread-read (rw (b, p, q, f) at e)
     fewer k r true b p q f =
         let i : read k r ≡ read l h = rw (b, p, q, f) at e in
         let x : k ≡ l = cc in
         let y : r ≡ h = cc in
-        itself (leb-true (length m) 8192 b) (rw x at p) (rw (x, y) at q) (leb-true (length (h .fields)) 96 (rw y at f))
+        record {
+          within-bytes = leb-true (length m) 8192 b;
+          has-start = rw x at p;
+          has-header = rw (x, y) at q;
+          within-fields = leb-true (length (h .fields)) 96 (rw y at f);
+        }
 
-    header-of : (k : Start) (o : Option Header) → leb (length m) 8192 ≡ true → start m ≡ some k → header 0 (drop (startSize k) m) ≡ o → ReadAs m l h
+    header-of : (k : Start) (o : Option Header) → leb (length m) 8192 ≡ true → start m ≡ some k → header 0 (drop (startSize k) m) ≡ o → LinesRead m l h
     header-of k none b p q = unread-read (rw (b, p, q) at e)
     header-of k (some r) b p q = fewer k r (leb (length (r .fields)) 96) b p q refl
 
-    go : (t : Bool) (o : Option Start) → leb (length m) 8192 ≡ t → start m ≡ o → ReadAs m l h
+    go : (t : Bool) (o : Option Start) → leb (length m) 8192 ≡ t → start m ≡ o → LinesRead m l h
     go false o b p = unread-read (rw b at e)
     go true none b p = unread-read (rw (b, p) at e)
     go true (some k) b p = header-of k (header 0 (drop (startSize k) m)) b p refl
+
+-- a message that reads is changed into itself
+pub everything : Everything
+everything m l h e =
+    let r = lines-inv m l h e in
+    let s = start-here m l (r .has-start) in
+    let a = header-here 0 (drop (startSize l) m) h (r .has-header) in
+    let whole : m ≡ startBytes l (s .version) ++ headerBytes (h .fields) (h .rest) =
+    sym (ap (λ (x : List ℕ). startBytes l (s .version) ++ x) (a .here) ∙ s .here) in
+    record {
+      change =
+          record {
+            line = l;
+            version = s .version;
+            fields = h .fields;
+            fields′ = h .fields;
+            rest = h .rest;
+            start-shaped = s .shaped;
+            all-shaped = a .shaped;
+            varied = varied-same (ignored (messageColumn l (h .fields))) (h .fields);
+            original = whole;
+            changed = whole;
+            within-bytes = r .within-bytes;
+            within-bytes′ = r .within-bytes;
+            within-fields = r .within-fields;
+            within-fields′ = r .within-fields;
+          };
+      same-line = refl;
+      same-fields = refl;
+      same-rest = refl;
+    }

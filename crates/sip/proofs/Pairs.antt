@@ -1,15 +1,15 @@
 -- A test for two callers (CR 5) that computes, proved right: it compares two messages part by part, as they are read.
-use mathlib.Core.Path.{_≡_, refl, sym, ap, _∙_}
+use mathlib.Core.Path.{_≡_, refl, sym, ap}
 use mathlib.Core.Bool.{Bool, true, false, not, _&&_, _||_}
 use mathlib.Core.List.{List, [], _∷_}
 use mathlib.Core.Option.{Option, none, some}
 use Prim.Native.Nat.{ℕ, _≤_}
 use lib.Dec.{eqb, leb}
-use lib.ListN.{length, take, drop, take-append-drop}
+use lib.ListN.{length, take, drop}
 use borrow.Author.Tests.{eqb-true, leb-true}
 use Rattle.octets.specs.Classes.{text}
 use Rattle.octets.specs.Scans.{same}
-use Rattle.sip.specs.Lines.{RequestLine, Start, request, response, start, startBytes, startSize, Field, Header, header, canonical}
+use Rattle.sip.specs.Lines.{RequestLine, Start, request, response, start, startSize, Field, Header, header, canonical}
 use Rattle.sip.specs.Profile.{numberOf, ignored}
 use Rattle.sip.specs.Values.{isFrom, tagOf, isIdentity, restricts}
 use Rattle.sip.specs.declared.Column.{Column}
@@ -21,9 +21,7 @@ use Rattle.sip.specs.Hidden.{Pair, alike, apart, handedBack, PairHolds, 
 use Rattle.sip.specs.Callers.{withValue, OtherCaller, no-fields, equal, TwoCallers}
 use Rattle.sip.proofs.Tests.{never, and-left, and-right}
 use Rattle.sip.proofs.Texts.{same-eq, same-refl}
-use Rattle.sip.proofs.Starts.{request-taken, start-here}
-use Rattle.sip.proofs.Headers.{header-here}
-use Rattle.sip.proofs.Callers.{any-value}
+use Rattle.sip.proofs.Callers.{any-value, pair-found}
 use Rattle.sip.proofs.Grammar.Tokens.{restricts-sound}
 
 -- texts that are not the same by the test are not equal
@@ -137,34 +135,6 @@ unfoldable pub areTwoCallers : List ℕ → List ℕ → Bool
 areTwoCallers m m′ = leb (length m) 8192 && (leb (length m′) 8192 && twoStarts m m′ (start m))
 
 module _ (m m′ : List ℕ) (b : length m ≤ 8192) (b′ : length m′ ≤ 8192) where
-  headers-pair : (l : RequestLine) → start m ≡ some (request l) → l .method ≡ text "INVITE"
-      → take (startSize (request l)) m ≡ take (startSize (request l)) m′ → (h k : Header) → header 0 (drop (startSize (request l)) m) ≡ some h
-      → header 0 (drop (startSize (request l)) m′) ≡ some k → h .rest ≡ k .rest → OtherCaller (h .fields) (k .fields)
-      → HoldsAny (Withholding (messageColumn (request l) (h .fields))) (h .fields) → TwoCallers m m′
-  headers-pair l p i t h k q r e o w =
-      let n = startSize (request l) in
-      let s = start-here m (request l) p in
-      let x = header-here 0 (drop n m) h q in
-      let y = header-here 0 (drop n m′) k r in
-      let z : take n m ≡ startBytes (request l) (s .version) = ap (take n) (sym (s .here)) ∙ request-taken l (s .version) (drop n m) (s .shaped) in
-      record {
-        line = l;
-        version = s .version;
-        fields = h .fields;
-        fields′ = k .fields;
-        rest = h .rest;
-        an-invite = i;
-        start-shaped = s .shaped;
-        all-shaped = x .shaped;
-        all-shaped′ = y .shaped;
-        other-caller = o;
-        first = rw (x .here) (sym (s .here));
-        second = rw (e, y .here, ← z, t) (sym (take-append-drop n m′));
-        within-bytes = b;
-        within-bytes′ = b′;
-        is-withheld = w;
-      }
-
   starts-pair : (o : Option Start) → start m ≡ o → twoStarts m m′ o ≡ true → TwoCallers m m′
   unfolding twoStarts twoHeaders
   starts-pair none p e = never (cc)
@@ -183,7 +153,7 @@ module _ (m m′ : List ℕ) (b : length m ≤ 8192) (b′ : length m′ ≤ 819
       go i t (some h) none q r c = never (cc)
       go i t (some h) (some k) q r c =
           let d = and-right (same (h .rest) (k .rest)) _ c in
-          headers-pair l p i t h k q r (same-eq (h .rest) (k .rest) (and-left (same (h .rest) (k .rest)) _ c))
+          pair-found m m′ b b′ l p i t h k q r (same-eq (h .rest) (k .rest) (and-left (same (h .rest) (k .rest)) _ c))
           (fields-pair (h .fields) (k .fields) (and-left (twoFields (h .fields) (k .fields)) _ d))
           (any-withholds (messageColumn (request l) (h .fields)) (h .fields) (and-right (twoFields (h .fields) (k .fields)) _ d))
 

@@ -5,13 +5,12 @@ use mathlib.Core.List.{List, [], _∷_}
 use mathlib.Core.Option.{Option, none, some}
 use Prim.Native.Nat.{ℕ, zero, suc, _+_, _-_, _≤_}
 use native.Mathlib.Omega.{arith}
-use lib.Dec.{leb}
 use lib.ListN.{length, drop, length-append, length-take, length-drop}
-use borrow.Author.Tests.{leb-true}
-use Rattle.sip.specs.Lines.{Start, start, startSize, startsCRLF, Shape, shape, size, Field, bytes, fieldOf, Header, withField, header}
+use Rattle.sip.specs.Lines.{Start, startSize, startsCRLF, Shape, shape, size, Field, bytes, fieldOf, Header, withField, header}
 use Rattle.sip.specs.Change.{headerBytes}
-use Rattle.sip.specs.Refusals.{lines, unread, read}
+use Rattle.sip.specs.Refusals.{lines, read}
 use Rattle.sip.proofs.Tests.{never}
+use Rattle.sip.proofs.Change.{lines-inv}
 
 bytes-le : (f : Shape) (s : List ℕ) → length (bytes (fieldOf f s)) ≤ size f
 bytes-le f s =
@@ -64,29 +63,9 @@ headerBytes-two [] rest = omega arith
 headerBytes-two (f ∷ fs) rest = omega (arith, length-append (bytes f) (headerBytes fs rest), headerBytes-two fs rest)
 
 pub read-inv : (m : List ℕ) (l : Start) (h : Header) → lines m ≡ read l h → Read m l h
-unfolding lines
-read-inv m l h e = go (leb (length m) 8192) (start m) refl refl
-  where
-    last : (k : Start) (g : Header) → header 0 (drop (startSize k) m) ≡ some g → leb (length (g .fields)) 96 ≡ true → read k g ≡ read l h
-        → Read m l h
-    last k g q p e =
-        let a : k ≡ l = cc in
-        let b : g ≡ h = cc in
-        rw (← a, ← b)
-        (record {
-          few = leb-true (length (g .fields)) 96 p;
-          fits = omega (arith, header-le 0 (drop (startSize k) m) g q, length-drop (startSize k) m, headerBytes-two (g .fields) (g .rest));
-        })
-
-    next : (k : Start) → leb (length m) 8192 ≡ true → start m ≡ some k → (o : Option Header) → header 0 (drop (startSize k) m) ≡ o → Read m l h
-    next k p q none x = let z : unread 4 ≡ read l h = rw (p, q, x) at e in never (cc)
-    next k p q (some g) x = few (leb (length (g .fields)) 96) refl
-      where
-        few : (t : Bool) → leb (length (g .fields)) 96 ≡ t → Read m l h
-        few true y = last k g x y (rw (p, q, x, y) at e)
-        few false y = let z : unread 5 ≡ read l h = rw (p, q, x, y) at e in never (cc)
-
-    go : (t : Bool) (o : Option Start) → leb (length m) 8192 ≡ t → start m ≡ o → Read m l h
-    go true none p q = let z : unread 3 ≡ read l h = rw (p, q) at e in never (cc)
-    go true (some k) p q = next k p q (header 0 (drop (startSize k) m)) refl
-    go false o p q = let z : unread 2 ≡ read l h = rw p at e in never (cc)
+read-inv m l h e =
+    let r = lines-inv m l h e in
+    record {
+      few = r .within-fields;
+      fits = omega (arith, header-le 0 (drop (startSize l) m) h (r .has-header), length-drop (startSize l) m, headerBytes-two (h .fields) (h .rest));
+    }
