@@ -1,27 +1,23 @@
 -- What `callingAt` gives, case by case, of what judging a message found.
-use mathlib.Core.Path.{_≡_, refl, sym, ap, _∙_}
-use mathlib.Core.Bool.{Bool, true, false, not, cond}
-use mathlib.Core.List.{List, [], _∷_, _++_}
+use mathlib.Core.Path.{_≡_, refl, sym, _∙_}
+use mathlib.Core.Bool.{Bool, true, false, not}
+use mathlib.Core.List.{List}
 use mathlib.Core.Option.{Option, none, some}
-use Prim.Native.Nat.{ℕ, zero, suc, _+_, _-_, _≤_, _<_}
+use Prim.Native.Nat.{ℕ, _+_, _≤_}
 use native.Mathlib.Omega.{arith}
-use lib.Dec.{eqb}
 use lib.ListN.{length, take, drop}
-use borrow.Author.Tests.{eq-eqb, ne-eqb, not-true, not-false}
+use borrow.Author.Tests.{le-ltb, ne-eqb, not-true, not-false}
 use Rattle.sip.specs.declared.CallingAt.{CallingAt}
 use Rattle.sip.specs.declared.Span.{Span}
-use Rattle.sip.specs.Lines.{folded, unfoldedAt}
-use Rattle.sip.specs.Values.{isGlobal, isIdentity}
-use Rattle.sip.specs.Refusals.{Answer, valueOf, messageColumn, refused, judgement}
-use Rattle.sip.specs.Readings.{noSpan, part, noCalling, callerAt, callingAt, callingPart, callingNumber, place, readingAt, reading}
-use Rattle.sip.proofs.Firsts.{kept-reading}
+use Rattle.sip.specs.Lines.{unfoldedAt}
+use Rattle.sip.specs.Values.{isGlobal}
+use Rattle.sip.specs.Refusals.{Answer, refused, judgement}
+use Rattle.sip.specs.Readings.{part, place, readingAt, Asserted, callerIn, noCalling, placedIn, callerOr, callingAt, callingPart, callingNumber}
 use Rattle.sip.proofs.Within.{reading-within}
-use Rattle.sip.proofs.Calling.{caller-within, calling-part}
-use Rattle.values.specs.Answers.{identityAt}
-use Rattle.lines.specs.declared.Slot.{Slot}
-use Rattle.lines.specs.Index.{slotAt, index}
-use Rattle.lines.specs.Passes.{firstSlots, spanOf, spansIn}
-use Rattle.lines.proofs.Counts.{spans-last, message-spans}
+use Rattle.sip.proofs.Calling.{caller-placed, caller-within, calling-part}
+use Rattle.lines.specs.Index.{index}
+use Rattle.lines.specs.Passes.{atMost96, firstSlots, spansIn}
+use Rattle.lines.proofs.Counts.{message-spans}
 use Rattle.judgement.specs.declared.Judged.{Judged}
 use Rattle.judgement.specs.Judges.{Passes, Judges}
 use Rattle.gateway.specs.Callers.{Calling}
@@ -47,113 +43,48 @@ module _ (m t : List ℕ) {x : CallingAt} (none-said : x ≡ noCalling) where
 pub good-trunk : (t : List ℕ) {b : Bool} → b ≡ isGlobal t → not b ≡ false → isGlobal t ≡ true
 good-trunk t {b} e f = sym e ∙ not-false b f
 
--- ---- the first slot of a number
-
-record Begins (p : Span) (ps : List Span) : Type 0 where
-  others : List Span
-  begins : ps ≡ p ∷ others
-
-begins-more : {p : Span} {ps : List Span} (q : Span) (b : Bool) → Begins p ps → Begins p (cond b (ps ++ q ∷ []) ps)
-begins-more q true g = record { others = g .others ++ q ∷ []; begins = ap (λ (l : List Span). l ++ q ∷ []) (g .begins) }
-begins-more q false g = g
-
-module _ (n : ℕ) (ns : List ℕ) (i : ℕ) (none-yet : spansIn n (firstSlots i ns) ≡ []) where
-  next-spans : {s : Slot} → s ≡ slotAt ns i → spansIn n (firstSlots (suc i) ns) ≡ cond (eqb (s .number) n) (spanOf s ∷ []) []
-  unfolding firstSlots
-  next-spans e = rw (spans-last n (firstSlots i ns) (slotAt ns i), none-yet, e)
-
-  pub none-here : {s : Slot} → s ≡ slotAt ns i → (s .number ≡ n → ⊥) → {j : ℕ} → j ≡ i + 1 → spansIn n (firstSlots j ns) ≡ []
-  none-here {s} e h z = let y : i + 1 ≡ suc i = omega arith in rw (z, y) (next-spans e ∙ rw (ne-eqb (s .number) n h))
-
-  pub none-of : {count : ℕ} → i ≤ count → count ≤ i → record { start = 0; len = 0 } ≡ place 1 (spansIn n (firstSlots count ns))
-  unfolding place
-  none-of {count} l h = let z : count ≡ i = omega arith in rw (z, none-yet)
-
-  -- it stays the first, whatever follows
-  module _ {s : Slot} (e : s ≡ slotAt ns i) (h : s .number ≡ n) where
-    stays : (k : ℕ) → Begins (spanOf s) (spansIn n (firstSlots (suc i + k) ns))
-    unfolding firstSlots
-    stays zero =
-        let z : suc i + 0 ≡ suc i = omega arith in
-        rw z (record { others = []; begins = next-spans e ∙ rw (eq-eqb (s .number) n h) })
-    stays (suc k) =
-        let z : suc i + suc k ≡ suc (suc i + k) = omega arith in
-        let r : Slot = slotAt ns (suc i + k) in
-        rw (z, spans-last n (firstSlots (suc i + k) ns) r) (begins-more (spanOf r) (eqb (r .number) n) (stays k))
-
-    pub first-here : {count : ℕ} → i < count → spanOf s ≡ place 1 (spansIn n (firstSlots count ns))
-    unfolding place
-    first-here {count} l =
-        let z : count ≡ suc i + (count - suc i) = omega arith in
-        rw (z, stays (count - suc i) .begins)
-
 -- ---- an accepted message
 
 module _ (m t : List ℕ) (g : isGlobal t ≡ true) {slots : List ℕ} {j : Judged} (p : Passes m slots j) where
-  abbrev value : Option (List ℕ)
-  value = valueOf 15 (p .message .fields)
-
-  pub trunk-said : j .number .len ≡ 0 → {x : CallingAt} → x ≡ record { «from_trunk» = true; start = 0; len = length t } → Calling m t x
+  stands-as : callingAt m t ≡ callerOr m t (j .caller)
   unfolding callingAt
-  trunk-said z {x} e = go value refl
-    where
-      go : (o : Option (List ℕ)) → value ≡ o → Calling m t x
-      go none q = record { stands = e ∙ sym (rw (g, p .is-accepted, q)); within = rw e (omega arith) }
-      go (some v) q = absurd (p .number-there v q z)
+  stands-as = rw (g, p .is-accepted, p .caller-is)
 
-  -- the identity v, whose number is not empty
-  module _ (some-number : j .number .len ≡ 0 → ⊥) (v : List ℕ) (there : value ≡ some v) where
-    formed : isIdentity v ≡ true
-    unfolding identityAt
-    formed = go (isIdentity v) refl
+  pub trunk-said : j .caller .field ≡ 0 → {x : CallingAt} → x ≡ record { «from_trunk» = true; start = 0; len = length t } → Calling m t x
+  trunk-said z {x} e = record { stands = e ∙ sym (stands-as ∙ rw z); within = rw e (omega arith) }
+
+  module _ (es : slots ≡ index m .slots) (ec : j .count ≡ index m .head .count) (some-field : j .caller .field ≡ 0 → ⊥) where
+    abbrev at : Span
+    at = readingAt m 15 (j .caller .field)
+
+    -- the slots say where the field's value is read
+    is-read : {q : Span} → q ≡ place (j .caller .field) (spansIn 15 (firstSlots (atMost96 (j .count)) slots)) → q ≡ at
+    unfolding readingAt
+    is-read e = e ∙ rw (le-ltb 96 (j .count) (p .few), es, ec, message-spans 15 (λ z. omega arith) m)
+
+    lies-within : placedIn m at (j .caller) .start + placedIn m at (j .caller) .len ≤ length m
+    lies-within = go (callerIn (p .message .fields)) refl
       where
-        go : (b : Bool) → isIdentity v ≡ b → b ≡ true
-        go true q = refl
-        go false q =
-            let e : noSpan ≡ j .number = rw q at (p .number-is v there) in
-            absurd (some-number (ap (λ (x : Span). x .len) (sym e)))
+        go : (o : Option Asserted) → callerIn (p .message .fields) ≡ o
+            → placedIn m (readingAt m 15 (j .caller .field)) (j .caller) .start + placedIn m (readingAt m 15 (j .caller .field)) (j .caller) .len ≤ length m
+        go none e = absurd (some-field (rw (p .caller-is, e)))
+        go (some a) e =
+            let s = caller-placed m (p .message) (p .is-accepted) a e in
+            rw (p .caller-is, e) (omega (arith, caller-within m a s, reading-within m 15 (a .field)))
 
-    number-at : (q : Span)
-        → record { «from_trunk» = false; start = q .start + unfoldedAt (j .number .start) 0 (part q m); len = j .number .len } ≡ callerAt m q v
-    unfolding callerAt identityAt
-    number-at q = rw (← p .number-is v there, formed)
+    module _ {q : Span} (hq : q ≡ place (j .caller .field) (spansIn 15 (firstSlots (atMost96 (j .count)) slots))) where
+      -- it lies within the message, so that no sum wraps
+      pub read-within : q .start + q .len ≤ 8192
+      read-within = rw (is-read hq) (omega (arith, reading-within m 15 (j .caller .field), p .short))
 
-    in-message : (q : Span) → callerAt m q v .«from_trunk» ≡ false
-    unfolding callerAt
-    in-message q = refl
-
-    read-from : v ≡ folded 0 (reading m 15 1)
-    read-from =
-        let l = p .message .line in
-        let c = messageColumn l (p .header .fields) in
-        kept-reading m l (p .header) (p .is-read) 15 (omega arith) c v (ap (valueOf 15) (sym (p .fields-kept)) ∙ there)
-
-    caller-there : {q : Span} → q ≡ readingAt m 15 1
-        → Calling m t (record { «from_trunk» = false; start = q .start + unfoldedAt (j .number .start) 0 (part q m); len = j .number .len })
-    unfolding callingAt reading
-    caller-there {q} e =
-        rw (number-at q, e)
-        (record {
-          stands = sym (rw (g, p .is-accepted, there));
-          within =
-              rw (in-message (readingAt m 15 1))
-              (omega (arith, caller-within m (readingAt m 15 1) v formed read-from, reading-within m 15 1));
-        })
-
-  pub caller-said : slots ≡ index m .slots → j .count ≡ index m .head .count → (j .number .len ≡ 0 → ⊥)
-      → {q : Span} → q ≡ place 1 (spansIn 15 (firstSlots (j .count) slots)) → {v : List ℕ} → v ≡ take (q .len) (drop (q .start) m)
-      → {u : ℕ} → u ≡ unfoldedAt (j .number .start) 0 v → {i : ℕ} → i ≡ q .start + u
-      → Calling m t (record { «from_trunk» = false; start = i; len = j .number .len })
-  unfolding readingAt
-  caller-said es ec n {q} hq hv hu hi = rw (hi, hu, hv) (go value refl)
-    where
-      at : q ≡ readingAt m 15 1
-      at = hq ∙ rw (es, ec, message-spans 15 (λ z. omega arith) m)
-
-      go : (o : Option (List ℕ)) → value ≡ o
-          → Calling m t (record { «from_trunk» = false; start = q .start + unfoldedAt (j .number .start) 0 (part q m); len = j .number .len })
-      go none e = absurd (n (ap (λ (x : Span). x .len) (p .number-none e)))
-      go (some w) e = caller-there n w e at
+      pub caller-said : {v : List ℕ} → v ≡ take (q .len) (drop (q .start) m) → {u : ℕ} → u ≡ unfoldedAt (j .caller .start) 0 v
+          → {i : ℕ} → i ≡ q .start + u → Calling m t (record { «from_trunk» = false; start = i; len = j .caller .len })
+      unfolding placedIn
+      caller-said hv hu hi =
+          let z : record { «from_trunk» = false; start = q .start + unfoldedAt (j .caller .start) 0 (part q m); len = j .caller .len }
+          ≡ placedIn m at (j .caller) = rw (is-read hq) in
+          rw (hi, hu, hv, z)
+          (record { stands = sym (stands-as ∙ rw (ne-eqb (j .caller .field) 0 some-field)); within = lies-within })
 
 -- ---- the part itself
 

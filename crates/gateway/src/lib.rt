@@ -10,12 +10,11 @@ ghost use lib.ListN.{length, take, drop};
 ghost use Rattle.sip.specs.Lines.{crlf};
 ghost use Rattle.sip.specs.Output.{fieldLines};
 ghost use Rattle.sip.specs.Refusals.{refusal};
-ghost use Rattle.sip.specs.Readings.{place, noCalling, callingPart, callingNumber};
+ghost use Rattle.sip.specs.Readings.{noCalling, callingPart, callingNumber};
 ghost use Rattle.sip.specs.Screen.{screened};
 ghost use Rattle.sip.specs.Values.{isGlobal};
 ghost use Rattle.emit.specs.Put.{Wrote};
 ghost use Rattle.lines.specs.Index.{index};
-ghost use Rattle.lines.specs.Passes.{firstSlots, spansIn};
 ghost use Rattle.judgement.specs.Entries.{Within, entriesFrom};
 ghost use Rattle.judgement.specs.Judges.{Told, Passes};
 ghost use Rattle.judgement.specs.Sets.{has};
@@ -231,24 +230,6 @@ pub fn screen(message: &[u8], side: u64, out: &mut [u8]) -> Verdict
     deliver(message, side, out, &slots, j)
 }
 
-// Where the value of the first field of number n stands, by the first `count` slots; no part where there is none.
-fn first_of(slots: &[u16; 384], count: usize, n: usize) -> sip::Span
-    ensures { λ r. ⌜ (r ≡ place 1 (spansIn n (firstSlots count (now (slots .entry))))) × (r .start < 65536) ⌝ }
-{
-    let mut i = 0;
-    while i < count {
-        let s = lines::slot_at(slots, i);
-        if s.number == n {
-            return sip::Span {
-                start: s.start,
-                len: s.len,
-            };
-        }
-        i += 1;
-    }
-    sip::Span { start: 0, len: 0 }
-}
-
 fn no_calling() -> sip::CallingAt
     ensures { λ r. ⌜ r ≡ noCalling ⌝ }
 {
@@ -269,8 +250,8 @@ fn whole_trunk(len: usize) -> sip::CallingAt
     }
 }
 
-// The calling number of an accepted message, where the trunk number is good. The judge says where the number stands in the canonical
-// identity; nothing in a number is folded, so it stands in the message as it is.
+// The calling number of an accepted message, where the trunk number is good. The judge says in which P-Asserted-Identity the identity stands
+// that it comes from, and where its number stands in the canonical value; nothing in a number is folded, so it stands in the message as it is.
 fn calling_accepted(message: &[u8], trunk: &[u8], slots: &[u16; 384], j: Judged) -> sip::CallingAt
     requires { ⌜
         Passes (now message) (now slots) j
@@ -280,17 +261,17 @@ fn calling_accepted(message: &[u8], trunk: &[u8], slots: &[u16; 384], j: Judged)
         ⌝ }
     ensures { λ r. ⌜ Calling (now (message .entry)) (now (trunk .entry)) r ⌝ }
 {
-    let number = j.number;
-    if number.len == 0 {
+    let caller = j.caller;
+    if caller.field == 0 {
         return whole_trunk(trunk.len());
     }
-    let p = first_of(slots, j.count, 15);
+    let p = lines::reading_of(slots, j.count, 15, caller.field as u64);
     let value = octets::part(message, p.start, p.len);
-    let start = p.start + emit::unfolded_at(value, number.start);
+    let start = p.start + emit::unfolded_at(value, caller.start);
     sip::CallingAt {
         from_trunk: false,
         start,
-        len: number.len,
+        len: caller.len,
     }
 }
 

@@ -1,7 +1,7 @@
 -- What holds of each entry of a list: the premises of the laws over lists, and what they hand on.
 use mathlib.Core.Path.{_≡_, refl}
 use mathlib.Core.Bool.{Bool, true, false, cond}
-use mathlib.Core.List.{List, [], _∷_}
+use mathlib.Core.List.{List, [], _∷_, _++_}
 use mathlib.Core.Option.{Option, some}
 use Prim.Native.Nat.{ℕ, zero, suc, _+_, _≤_, _<_}
 use native.Mathlib.Omega.{arith}
@@ -11,7 +11,9 @@ use Rattle.octets.specs.Classes.{bit}
 use Rattle.sip.specs.declared.Column.{Column}
 use Rattle.sip.specs.declared.Column.the-variants.{Invite, Reinvite, Ack, Bye, Cancel, Options, InviteSuccess, CancelResponse, OtherResponse}
 use Rattle.sip.specs.Profile.{rows, find, mark, ignored}
-use Rattle.sip.specs.Refusals.{Entry, valueOf, wellFormed, firstMalformed}
+use Rattle.sip.specs.Values.{allowed}
+use Rattle.sip.specs.Refusals.{Entry, valueOf, wellFormed, brought, firstMalformed}
+use Rattle.sip.proofs.Accepted.{first-formed}
 use Rattle.sip.proofs.Once.{times}
 use Rattle.sip.proofs.Tests.{never}
 use Rattle.lines.specs.Index.{slotAt}
@@ -57,15 +59,12 @@ kept-listed OtherResponse = kept-has OtherResponse 0
 abbrev pub WellFormed : List ℕ → Entry → Type 0
 WellFormed method e = wellFormed method (e .number) (e .value) ≡ true
 
-pub well-formed : (method : List ℕ) (es : List Entry) → Listed es → firstMalformed method es ≡ 0 → Each (WellFormed method) es
-unfolding firstMalformed
-well-formed method [] n h = tt
-well-formed method (e ∷ es) n h = go (wellFormed method (e .number) (e .value)) refl h (well-formed method es (n .1))
-  where
-    go : (t : Bool) → wellFormed method (e .number) (e .value) ≡ t → cond t (firstMalformed method es) (e .number) ≡ 0
-        → (firstMalformed method es ≡ 0 → Each (WellFormed method) es) → Each (WellFormed method) (e ∷ es)
-    go true p q f = (p, f q)
-    go false p q f = absurd (omega arith)
+pub well-formed : (method : List ℕ) (earlier : List Bool) (es : List Entry) → allowed earlier ≡ true → firstMalformed method earlier es ≡ 0
+    → Each (WellFormed method) es
+well-formed method earlier [] a h = tt
+well-formed method earlier (e ∷ es) a h =
+    let f = first-formed method earlier e es a h in
+    (f .is-formed, well-formed method (earlier ++ brought e) es (f .is-allowed) (f .others))
 
 -- the first value of a number is that of an entry
 pub of-first : (P : Entry → Type 0) (k : ℕ) (es : List Entry) (v : List ℕ) → Each P es → valueOf k es ≡ some v

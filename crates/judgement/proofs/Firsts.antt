@@ -1,5 +1,5 @@
 -- What the tally has of the first field of a number is what document 01's words say of the first value of that number.
-use mathlib.Core.Path.{_≡_, refl, sym, ap, _∙_}
+use mathlib.Core.Path.{_≡_, refl, sym, _∙_}
 use mathlib.Core.Bool.{Bool, true, false, not, cond, _&&_, _||_}
 use mathlib.Core.List.{List, [], _∷_}
 use mathlib.Core.Option.{Option, none, some}
@@ -7,22 +7,22 @@ use Prim.Native.Nat.{ℕ, suc, _+_, _≤_}
 use native.Mathlib.Omega.{arith}
 use lib.Dec.{eqb}
 use lib.ListN.{length}
-use borrow.Author.Tests.{eqb-true, eqb-false, ne-eqb, not-true}
+use borrow.Author.Tests.{eqb-true, ne-eqb}
 use Rattle.octets.specs.Scans.{decimal}
 use Rattle.sip.specs.declared.Span.{Span}
 use Rattle.sip.specs.Profile.{once, find, rows}
-use Rattle.sip.specs.Values.{party, isTagged, tagOf, tokens, listOr, firstPlace, anyToken, isRestricting, restricts, isNumber, isMaxForwards, isContentLength}
+use Rattle.sip.specs.Values.{party, isTagged, tagOf, tokens, listOr, firstPlace, anyToken, isRestricting, restricts, isNumber, isMaxForwards}
+use Rattle.sip.specs.Values.{isContentLength}
 use Rattle.sip.specs.Refusals.{Entry, valueOf, occurs, toTagged, withheld, contentLength, noHops, firstRepeat, wellFormed}
-use Rattle.sip.specs.Readings.{noSpan, part}
+use Rattle.sip.specs.Readings.{part}
 use Rattle.sip.proofs.Once.{at-most-once}
-use Rattle.values.specs.Answers.{wholeNumber, identityAt, privacyAt}
+use Rattle.values.specs.Answers.{wholeNumber, privacyAt}
 use Rattle.judgement.specs.declared.Finding.{Finding}
 use Rattle.judgement.specs.declared.Tally.{Tally}
 use Rattle.judgement.specs.Sets.{has}
 use Rattle.judgement.specs.Tallies.{finding, isFirst, noted, noTally, tallied}
 use Rattle.judgement.proofs.Masks.{has-none}
 use Rattle.judgement.proofs.Bounds.{party-within}
-use Rattle.judgement.proofs.Good.{identity-good}
 use Rattle.judgement.proofs.Each.{Each, each, WellFormed, of-first, Only, only}
 use Rattle.judgement.proofs.Totals.{next, seen-next}
 
@@ -59,7 +59,7 @@ module _ {A : Type 0} (method : List ℕ) (k : ℕ) (get : Tally → A) (says : 
       → get (tallied method noTally es) ≡ of (get noTally) (λ (v : List ℕ). says (finding method k v)) (valueOf k es)
   first es = first-is noTally es ∙ rw (has-none k)
 
--- ---- the first Max-Forwards, To, Privacy, Content-Length, From and P-Asserted-Identity
+-- ---- the first Max-Forwards, To, Privacy, Content-Length and From
 
 abbrev orFalse : (List ℕ → Bool) → Option (List ℕ) → Bool
 orFalse p none = false
@@ -126,25 +126,7 @@ module _ (method : List ℕ) (es : List Entry) where
   total-tag v q =
       first method 3 (λ (t : Tally). t .tag) (λ (f : Finding). record { start = f .start; len = f .len }) (λ t n f. refl) es ∙ rw q
 
-  total-number : tallied method noTally es .number ≡ of noSpan identityAt (valueOf 15 es)
-  unfolding noted finding
-  total-number =
-      first method 15 (λ (t : Tally). t .number) (λ (f : Finding). record { start = f .start; len = f .len }) (λ t n f. refl) es
-
-  pub number-is : (v : List ℕ) → valueOf 15 es ≡ some v → identityAt v ≡ tallied method noTally es .number
-  number-is v q = sym (total-number ∙ rw q)
-
-  pub number-none : valueOf 15 es ≡ none → tallied method noTally es .number ≡ noSpan
-  number-none q = total-number ∙ rw q
-
   module _ (formed : Each (WellFormed method) es) where
-    -- an asserted identity has a number
-    pub number-there : (v : List ℕ) → valueOf 15 es ≡ some v → tallied method noTally es .number .len ≡ 0 → ⊥
-    unfolding wellFormed
-    number-there v q z =
-        let g : not (eqb (identityAt v .len) 0) ≡ true = identity-good v ∙ of-first (WellFormed method) 15 es v formed q in
-        eqb-false (identityAt v .len) 0 (not-true (eqb (identityAt v .len) 0) g) (ap (λ (p : Span). p .len) (number-is v q) ∙ z)
-
     pub total-hopless : noHops es ≡ (occurs 2 es && eqb (tallied method noTally es .hops) 0)
     unfolding noted finding noHops wellFormed isMaxForwards
     total-hopless =

@@ -48,5 +48,5 @@ module _ (method : List ℕ) (n : ℕ) (v : List ℕ) where
         → (n ≡ 16 → ⊥) → f ≡ filled n v → r ≡ counted t n (f .good) → r ≡ noted t n (finding method n v)
     unfolding counted noted
     other-noted n2 n3 n4 n5 n6 n8 n14 n15 n16 e h =
-        h
-        ∙ rw (ne-eqb n 2 n2, ne-eqb n 3 n3, ne-eqb n 4 n4, ne-eqb n 8 n8, ne-eqb n 14 n14, ne-eqb n 15 n15, ne-eqb n 16 n16, ← other n2 n3 n4 n5 n6 n8 n14 n15 n16 e)
+        let o : f ≡ finding method n v = other n2 n3 n4 n5 n6 n8 n14 n15 n16 e in
+        h ∙ rw (ne-eqb n 2 n2, ne-eqb n 3 n3, ne-eqb n 4 n4, ne-eqb n 8 n8, ne-eqb n 14 n14, ne-eqb n 15 n15, ne-eqb n 16 n16, ← o)

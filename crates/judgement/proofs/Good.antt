@@ -1,19 +1,19 @@
--- A finding is good exactly where the value is well formed.
+-- A finding is good exactly where the value is well formed, and then its schemes are those of the identities that the field brings.
 use mathlib.Core.Path.{_≡_, refl, _∙_}
-use mathlib.Core.Bool.{Bool, true, false, not, cond, _&&_}
-use mathlib.Core.List.{List, []}
-use Prim.Native.Nat.{ℕ, _+_}
+use mathlib.Core.Bool.{Bool, true, false, not, cond}
+use mathlib.Core.List.{List}
+use Prim.Native.Nat.{ℕ}
 use lib.Dec.{eqb}
-use lib.ListN.{length, take, drop}
+use lib.ListN.{length}
 use borrow.Author.Tests.{eqb-true, eqb-false, ne-eqb, not-true}
-use Rattle.octets.specs.Scans.{decimal, noNumber, number, starts}
-use Rattle.sip.specs.Values.{isNumber, isMaxForwards, isContentLength, isTo, isTagged, isFrom, address, person, personSize, identity, isGlobal, isIdentity, isPrivacy, isRequire}
-use Rattle.sip.specs.Refusals.{wellFormed}
-use Rattle.sip.specs.Readings.{noSpan}
-use Rattle.sip.proofs.Tests.{never, and-left, and-right}
-use Rattle.values.specs.Answers.{wholeNumber, identityAt, privacyAt, requireAt}
+use Rattle.octets.specs.Scans.{decimal, noNumber, number}
+use Rattle.sip.specs.Values.{isNumber, isMaxForwards, isContentLength, isTo, isTagged, isFrom, isPrivacy, isRequire, allowed, isAsserted}
+use Rattle.sip.specs.Refusals.{Entry, wellFormed, brought}
+use Rattle.sip.proofs.Tests.{and-left, and-right}
+use Rattle.values.specs.Answers.{wholeNumber, privacyAt, requireAt}
 use Rattle.judgement.specs.declared.Finding.{Finding}
 use Rattle.judgement.specs.Tallies.{finding}
+use Rattle.judgement.proofs.Schemes.{mask, asserted-allowed, asserted-mask, asserted-good}
 
 good-cond : (b : Bool) (x y : Finding) → cond b x y .good ≡ cond b (x .good) (y .good)
 good-cond true x y = refl
@@ -36,29 +36,21 @@ number-good most bound v = go (isNumber most bound v) refl
     go true e = rw (ne-eqb (length v) 0 (number-size most bound v e))
     go false e = refl
 
-nothing-global : isGlobal [] ≡ false
-unfolding isGlobal starts
-nothing-global = refl
-
--- an identity has a number
-identity-size : (v : List ℕ) → isIdentity v ≡ true → personSize (address v .uri) ≡ 0 → ⊥
-unfolding isIdentity identity person
-identity-size v e q =
-    let a = address v in
-    let g : isGlobal (take (personSize (a .uri)) (drop 4 (drop (a .at) v))) ≡ true =
-    and-right (eqb (a .size) (length v)) (isGlobal (identity v)) (and-right (not (eqb (a .size) 0)) (eqb (a .size) (length v) && isGlobal (identity v)) e) in
-    let z : isGlobal [] ≡ true = rw q at g in
-    never (cc nothing-global)
-
-pub identity-good : (v : List ℕ) → not (eqb (identityAt v .len) 0) ≡ isIdentity v
-unfolding identityAt
-identity-good v = go (isIdentity v) refl
-  where
-    go : (t : Bool) → isIdentity v ≡ t
-        → not (eqb (cond t (record { start = address v .at + 4; len = personSize (address v .uri) }) noSpan .len) 0) ≡ t
-    go true e = rw (ne-eqb (personSize (address v .uri)) 0 (identity-size v e))
-    go false e = refl
-
 pub good : (method : List ℕ) (n : ℕ) (v : List ℕ) → finding method n v .good ≡ wellFormed method n v
 unfolding finding wellFormed isMaxForwards isContentLength isTo isTagged isFrom privacyAt requireAt isPrivacy isRequire
-good method n v = simp (good-cond, number-good, identity-good)
+good method n v = simp (good-cond, number-good, asserted-good)
+
+-- ---- the identities that a field brings
+
+module _ (method : List ℕ) (e : Entry) (formed : wellFormed method (e .number) (e .value) ≡ true) where
+  pub is-asserted : eqb (e .number) 15 ≡ true → isAsserted (e .value) ≡ true
+  unfolding wellFormed
+  is-asserted q = rw (eqb-true (e .number) 15 q) at formed
+
+  pub brought-allowed : eqb (e .number) 15 ≡ true → allowed (brought e) ≡ true
+  unfolding brought
+  brought-allowed q = rw q (asserted-allowed (e .value) (is-asserted q))
+
+  pub found-schemes : eqb (e .number) 15 ≡ true → finding method (e .number) (e .value) .schemes ≡ mask (brought e)
+  unfolding brought finding
+  found-schemes q = rw (eqb-true (e .number) 15 q) (asserted-mask (e .value) (is-asserted q))

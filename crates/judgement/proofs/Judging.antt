@@ -10,7 +10,8 @@ use Rattle.sip.specs.declared.Span.{Span}
 use Rattle.sip.specs.Lines.{Start, startSize, Field, Header}
 use Rattle.sip.specs.Output.{beforeVersion}
 use Rattle.sip.specs.Change.{StartShaped}
-use Rattle.sip.specs.Refusals.{Answer, read, lines, kept, refusal, silent, replied, Entry, messageColumn, keptOf, passed, refused, accepted, judged, judgement}
+use Rattle.sip.specs.Refusals.{Answer, read, lines, kept, refusal, silent, replied, Entry, messageColumn, keptOf, passed, refused, accepted}
+use Rattle.sip.specs.Refusals.{judged, judgement}
 use Rattle.sip.proofs.Spans.{StartParts}
 use Rattle.lines.specs.declared.Message.{Message}
 use Rattle.lines.specs.Index.{methodLength, uriLength}
@@ -23,7 +24,8 @@ use Rattle.judgement.specs.Judged.{refusalOf, silenced, judgedFrom}
 use Rattle.judgement.specs.Judges.{Told, nothing, also, Passes, Judges}
 use Rattle.judgement.proofs.Members.{kept-has}
 use Rattle.judgement.proofs.Each.{Each, Listed, entries-listed, kept-listed}
-use Rattle.judgement.proofs.Firsts.{HopsAre, TagIn, TagWithin, total-withheld, hops-there, tags-there, tags-within, number-is, number-there, number-none}
+use Rattle.judgement.proofs.Firsts.{HopsAre, TagIn, TagWithin, total-withheld, hops-there, tags-there, tags-within}
+use Rattle.judgement.proofs.Callers.{total-caller}
 use Rattle.judgement.proofs.Decisions.{Numbered}
 use Rattle.judgement.proofs.Reasons.{body-there, body-is, Fine}
 
@@ -142,9 +144,7 @@ module _ {m slots : List ℕ} {x : Message} {l : Start} (r : Reads m slots x l) 
               told =
                   told-each _ _ es (hops-there method es (fine .formed) (fine .unrepeated)) (tags-there method es (fine .unrepeated))
                   (tags-within method es (fine .unrepeated));
-              number-is = number-is method es;
-              number-there = number-there method es (fine .formed);
-              number-none = number-none method es;
+              caller-is = total-caller method es (fine .unmalformed);
             }
 
       accepts-is : Numbered o → (o ≡ none → judged l es left ≡ accepted (passed l es left)) → (o ≡ none → Fine method es left)

@@ -1,6 +1,6 @@
 -- The pass over the slots, one slot at a time: what is kept is noted with its canonical value, and the rest of the entries is left.
 use mathlib.Core.Path.{_≡_, refl, sym, ap, _∙_}
-use mathlib.Core.Bool.{Bool, true, false, not, cond}
+use mathlib.Core.Bool.{Bool, true, false, not, cond, _&&_}
 use mathlib.Core.List.{List, [], _∷_, _++_}
 use Prim.Native.Nat.{ℕ, suc, _+_, _-_, _≤_, _<_, _^_}
 use native.Mathlib.Numerals.{add-one}
@@ -14,7 +14,7 @@ use Rattle.octets.specs.Scans.{run, any}
 use Rattle.sip.specs.Lines.{joined, folded}
 use Rattle.sip.specs.Values.{isEmpty}
 use Rattle.sip.proofs.Canonical.{folded-byte, folded-run, folded-le}
-use Rattle.sip.proofs.Tests.{never}
+use Rattle.sip.proofs.Tests.{never, and-left, and-right}
 use Rattle.lines.specs.declared.Slot.{Slot}
 use Rattle.lines.specs.Index.{slotAt}
 use Rattle.emit.specs.Put.{Wrote}
@@ -22,7 +22,7 @@ use Rattle.emit.proofs.Laws.{wrote-room}
 use Rattle.judgement.specs.declared.Finding.{Finding}
 use Rattle.judgement.specs.declared.Tally.{Tally}
 use Rattle.judgement.specs.Sets.{has}
-use Rattle.judgement.specs.Entries.{Within, valueAt, entryAt, entriesFrom}
+use Rattle.judgement.specs.Entries.{Within, unfoldedBy, valueAt, entryAt, entriesFrom}
 use Rattle.judgement.specs.Tallies.{finding, noted, noTally, tallied}
 use Rattle.judgement.specs.Judged.{takenUp}
 use Rattle.judgement.proofs.Bounds.{tags-grow}
@@ -81,6 +81,18 @@ module _ (method : List ℕ) (n : ℕ) (v : List ℕ) (set : ℕ) {b : Bool} (e 
 
 -- ---- a slot is taken up
 
+unfolded-le : (b : Bool) (v : List ℕ) → length (unfoldedBy b v) ≤ length v
+unfolded-le true v = folded-le v
+unfolded-le false v = omega arith
+
+-- a field that is new has its canonical value in place, and its number did not come before
+module _ (t : Tally) (s : Slot) {a : Bool} (y : a ≡ (not (s .folded) && not (has (t .seen) (s .number)))) (z : a ≡ true) where
+  in-place : s .folded ≡ false
+  in-place = not-true (s .folded) (and-left (not (s .folded)) (not (has (t .seen) (s .number))) (sym y ∙ z))
+
+  pub unseen : has (t .seen) (s .number) ≡ false
+  unseen = not-true (has (t .seen) (s .number)) (and-right (not (s .folded)) (not (has (t .seen) (s .number))) (sym y ∙ z))
+
 module _ (method m : List ℕ) (kept : ℕ) (t : Tally) (s : Slot) {b : Bool} (e : b ≡ has kept (s .number)) where
   pub skipped : not b ≡ true → t ≡ takenUp method kept m t s
   unfolding takenUp
@@ -94,24 +106,26 @@ module _ (method m : List ℕ) (kept : ℕ) (t : Tally) (s : Slot) {b : Bool} (e
     low h = has-low 32 kept (s .number) h held
 
     module _ {v : List ℕ} (hv : v ≡ take (s .len) (drop (s .start) m)) {r : Tally} where
-      pub taken-plain : s .folded ≡ false → r ≡ noted t (s .number) (finding method (s .number) v) → r ≡ takenUp method kept m t s
+      pub taken-first : {a : Bool} → a ≡ (not (s .folded) && not (has (t .seen) (s .number))) → a ≡ true
+          → r ≡ noted t (s .number) (finding method (s .number) v) → r ≡ takenUp method kept m t s
       unfolding takenUp valueAt
-      taken-plain z h = rw (held, ← hv, z) h
+      taken-first y z h = rw (held, ← hv, in-place t s y z) h
 
-      pub taken-folded : s .folded ≡ true → {f : Finding} → f ≡ finding method (s .number) (folded 0 v) → r ≡ noted t (s .number) f
+      pub taken-again : {f : Finding} → f ≡ finding method (s .number) (unfoldedBy (s .folded) v) → r ≡ noted t (s .number) f
           → r ≡ takenUp method kept m t s
       unfolding takenUp valueAt
-      taken-folded z d h = rw (held, ← hv, z, ← d) h
+      taken-again d h = rw (held, ← hv, ← d) h
 
 module _ (method m : List ℕ) (short : length m ≤ 8192) (t : Tally) (s : Slot) {v : List ℕ} (hv : v ≡ take (s .len) (drop (s .start) m)) where
   value-le : length v ≤ 8192
   value-le = rw hv (omega (arith, length-take (s .len) (drop (s .start) m), length-drop (s .start) m))
 
-  pub plain-tags : {r : Tally} → r ≡ noted t (s .number) (finding method (s .number) v) → r .tags ≤ t .tags + 8192
-  plain-tags h = rw h (omega (arith, value-le, tags-grow method t (s .number) v))
+  pub first-tags : {r : Tally} → r ≡ noted t (s .number) (finding method (s .number) v) → r .tags ≤ t .tags + 8192
+  first-tags h = rw h (omega (arith, value-le, tags-grow method t (s .number) v))
 
-  pub folded-tags : {r : Tally} {f : Finding} → f ≡ finding method (s .number) (folded 0 v) → r ≡ noted t (s .number) f → r .tags ≤ t .tags + 8192
-  folded-tags d h = rw (h, d) (omega (arith, value-le, folded-le v, tags-grow method t (s .number) (folded 0 v)))
+  pub again-tags : {r : Tally} {f : Finding} → f ≡ finding method (s .number) (unfoldedBy (s .folded) v) → r ≡ noted t (s .number) f
+      → r .tags ≤ t .tags + 8192
+  again-tags d h = rw (h, d) (omega (arith, value-le, unfolded-le (s .folded) v, tags-grow method t (s .number) (unfoldedBy (s .folded) v)))
 
 -- ---- all slots
 

@@ -2,10 +2,12 @@ pub mod Choices
 pub mod Masks
 pub mod Members
 pub mod Bounds
+pub mod Schemes
 pub mod Good
 pub mod Each
 pub mod Totals
 pub mod Firsts
+pub mod Callers
 pub mod Found
 pub mod Noted
 pub mod Required

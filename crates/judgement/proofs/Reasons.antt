@@ -15,8 +15,9 @@ use Rattle.sip.specs.declared.Column.{Column}
 use Rattle.sip.specs.declared.Column.the-variants.{Invite, Reinvite, Ack, Bye, Cancel, Options}
 use Rattle.sip.specs.Lines.{RequestLine}
 use Rattle.sip.specs.Profile.{columnOf, numbers}
-use Rattle.sip.specs.Values.{isEmpty}
-use Rattle.sip.specs.Refusals.{Answer, refusal, when, firstOf, Entry, contentLength, bodyOf, exceeds, missingOf, headOr, firstRepeat, firstMalformed, isInitial}
+use Rattle.sip.specs.Values.{isEmpty, allowed}
+use Rattle.sip.specs.Refusals.{Answer, refusal, when, firstOf, Entry, contentLength, bodyOf, exceeds, missingOf, headOr, firstRepeat}
+use Rattle.sip.specs.Refusals.{firstMalformed, isInitial}
 use Rattle.sip.specs.Refusals.{reason7, reason8, reason9, reason10, reason11, reason12, reason13, reason14, reason15, reasons, responseReasons}
 use Rattle.sip.proofs.Tests.{never}
 use Rattle.values.specs.Answers.{requestUri}
@@ -142,16 +143,21 @@ module _ (method : List ℕ) (es : List Entry) (rest : List ℕ) where
         unfolding lackAt reason12
         reason12-is = rw lack-is (lacks-is (missingOf c (isEmpty (bodyOf es rest)) es numbers))
 
-  -- no field repeats, each value is well formed, and the body is there
+  -- no field repeats, each value is well formed, the identities are allowed, and the body is there
   pub record Fine : Type 0 where
     pub unrepeated : firstRepeat [] es ≡ 0
+    pub unmalformed : firstMalformed method [] es ≡ 0
     pub formed : Each (WellFormed method) es
     pub there : exceeds es rest ≡ false
 
   module _ (listed : Listed es) (c : Column) where
-    formed-of : reason10 method es ≡ none → Each (WellFormed method) es
+    unmalformed-of : reason10 method es ≡ none → firstMalformed method [] es ≡ 0
     unfolding reason10
-    formed-of q = well-formed method es listed (zero-when-none (firstMalformed method es) (refusal 10 400 (firstMalformed method es) 0) q)
+    unmalformed-of q = zero-when-none (firstMalformed method [] es) (refusal 10 400 (firstMalformed method [] es) 0) q
+
+    formed-of : reason10 method es ≡ none → Each (WellFormed method) es
+    unfolding allowed
+    formed-of q = well-formed method [] es refl (unmalformed-of q)
 
     there-of : reason11 es rest ≡ none → exceeds es rest ≡ false
     unfolding reason11
@@ -192,6 +198,7 @@ module _ (method : List ℕ) (es : List Entry) (rest : List ℕ) where
         let (n11, _) = none-first (reason11 es rest) (reason12 c es rest ∷ []) q11 in
         record {
           unrepeated = zero-when-none (firstRepeat [] es) (refusal 9 400 (firstRepeat [] es) 0) n9;
+          unmalformed = unmalformed-of n10;
           formed = formed-of n10;
           there = there-of n11;
         }

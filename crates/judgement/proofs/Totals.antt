@@ -1,20 +1,24 @@
 -- What is seen, what came again and what is malformed at the end of the pass are what document 01's words say of the list.
 use mathlib.Core.Path.{_≡_, refl, sym, _∙_}
-use mathlib.Core.Bool.{Bool, true, false, cond, _&&_, _||_}
-use mathlib.Core.List.{List, [], _∷_}
+use mathlib.Core.Bool.{Bool, true, false, cond, _&&_, _||_, and-true}
+use mathlib.Core.List.{List, [], _∷_, _++_, append-nil}
 use Prim.Native.Nat.{ℕ, _<_}
+use lib.Bits.{bitAnd, bitOr, or-zero-r}
 use lib.Dec.{eqb}
 use native.Mathlib.Omega.{arith}
-use borrow.Author.Tests.{ne-eqb, eqb-true}
+use borrow.Author.Tests.{ne-eqb, eqb-true, eqb-false}
 use Rattle.octets.specs.Classes.{among}
 use Rattle.sip.specs.Profile.{once}
-use Rattle.sip.specs.Refusals.{Entry, occurs, firstRepeat, wellFormed, firstMalformed}
-use Rattle.sip.proofs.Tests.{eqb-turned}
+use Rattle.sip.specs.Values.{allowed}
+use Rattle.sip.specs.Refusals.{Entry, occurs, firstRepeat, wellFormed, brought, firstMalformed}
+use Rattle.sip.proofs.Tests.{eqb-turned, and-left, and-right}
+use Rattle.judgement.specs.declared.Finding.{Finding}
 use Rattle.judgement.specs.declared.Tally.{Tally}
 use Rattle.judgement.specs.Sets.{has}
-use Rattle.judgement.specs.Tallies.{finding, orElse, noted, noTally, tallied}
+use Rattle.judgement.specs.Tallies.{finding, orElse, fitting, noted, noTally, tallied}
 use Rattle.judgement.proofs.Masks.{has-none, has-with}
-use Rattle.judgement.proofs.Good.{good}
+use Rattle.judgement.proofs.Schemes.{mask, allowed-disjoint, mask-append}
+use Rattle.judgement.proofs.Good.{good, brought-allowed, found-schemes}
 use Rattle.judgement.proofs.Each.{Listed}
 
 -- ---- the first that is not 0
@@ -40,6 +44,24 @@ else-first false n c h = refl
 else-later : (t : Bool) (n c : ℕ) → 0 < n → orElse (cond t 0 n) c ≡ cond t c n
 else-later true n c h = refl
 else-later false n c h = rw (ne-eqb n 0 (λ q. omega arith))
+
+else-zero : (a b : ℕ) → orElse a b ≡ 0 → (a ≡ 0) × (b ≡ 0)
+else-zero a b h = go (eqb a 0) refl h
+  where
+    go : (t : Bool) → eqb a 0 ≡ t → cond t b a ≡ 0 → (a ≡ 0) × (b ≡ 0)
+    go true e q = (eqb-true a 0 e, q)
+    go false e q = absurd (eqb-false a 0 e q)
+
+else-under : (a : ℕ) {b c : ℕ} → (a ≡ 0 → b ≡ c) → orElse a b ≡ orElse a c
+else-under a {b} {c} f = go (eqb a 0) refl
+  where
+    go : (t : Bool) → eqb a 0 ≡ t → cond t b a ≡ cond t c a
+    go true e = f (eqb-true a 0 e)
+    go false e = refl
+
+kept-zero : (t : Bool) (n : ℕ) → 0 < n → cond t 0 n ≡ 0 → t ≡ true
+kept-zero true n h q = refl
+kept-zero false n h q = absurd (omega arith)
 
 -- ---- one field more
 
@@ -77,14 +99,79 @@ module _ (method : List ℕ) where
       ∙ rw (h (e .number)) (else-assoc (t .again) (cond (once (e .number) && among earlier (e .number)) (e .number) 0) (firstRepeat (e .number ∷ earlier) es)
       ∙ rw (else-first, n .0))
 
-  malformed-is : (t : Tally) (es : List Entry) → Listed es
-      → tallied method t es .malformed ≡ orElse (t .malformed) (firstMalformed method es)
-  unfolding tallied firstMalformed noted
-  malformed-is t [] n = sym (else-none (t .malformed))
-  malformed-is t (e ∷ es) n =
-      malformed-is (next t e) es (n .1)
-      ∙ rw (good method (e .number) (e .value)) (else-assoc (t .malformed) (cond (wellFormed method (e .number) (e .value)) 0 (e .number)) (firstMalformed method es)
-      ∙ rw (else-later, n .0))
+  -- the mask is that of the identities so far, and they are allowed
+  pub record SoFar (t : Tally) (earlier : List Bool) : Type 0 where
+    pub masked : t .schemes ≡ mask earlier
+    pub are-allowed : allowed earlier ≡ true
+
+  module _ (t : Tally) (earlier : List Bool) (e : Entry) where
+    abbrev so-far : List Bool
+    so-far = earlier ++ brought e
+
+    abbrev formed : Bool
+    formed = wellFormed method (e .number) (e .value)
+
+    abbrev f : Finding
+    f = finding method (e .number) (e .value)
+
+    abbrev fits : Bool
+    fits = cond (eqb (e .number) 15) (fitting (t .schemes) f) (f .good)
+
+    module _ (s : SoFar t earlier) where
+      -- a P-Asserted-Identity
+      fitting-is : eqb (e .number) 15 ≡ true → fitting (t .schemes) f ≡ (formed && allowed so-far)
+      fitting-is p = rw (good method (e .number) (e .value)) (go formed refl)
+        where
+          go : (b : Bool) → formed ≡ b → (b && eqb (bitAnd (t .schemes) (f .schemes)) 0) ≡ (b && allowed so-far)
+          go true q =
+              rw (s .masked, found-schemes method e q p) (sym (allowed-disjoint earlier (brought e) (s .are-allowed) (brought-allowed method e q p)))
+          go false q = refl
+
+      -- a field that brings no identity
+      good-is : eqb (e .number) 15 ≡ false → f .good ≡ (formed && allowed so-far)
+      unfolding brought
+      good-is p =
+          good method (e .number) (e .value)
+          ∙ rw (p, append-nil earlier, s .are-allowed) (sym (and-true formed))
+
+      fits-is : fits ≡ (formed && allowed so-far)
+      fits-is = go (eqb (e .number) 15) refl
+        where
+          go : (b : Bool) → eqb (e .number) 15 ≡ b → cond b (fitting (t .schemes) f) (f .good) ≡ (formed && allowed so-far)
+          go true p = fitting-is p
+          go false p = good-is p
+
+    pub next-schemes : SoFar t earlier → formed ≡ true → allowed so-far ≡ true → SoFar (next t e) so-far
+    unfolding noted brought mask
+    next-schemes s q a =
+        record { masked = go (eqb (e .number) 15) refl (mask-append earlier (brought e) a); are-allowed = a }
+      where
+        go : (b : Bool) → eqb (e .number) 15 ≡ b → mask so-far ≡ bitOr (mask earlier) (mask (brought e))
+            → cond b (bitOr (t .schemes) (f .schemes)) (t .schemes) ≡ mask so-far
+        go true p m = rw (s .masked, found-schemes method e q p) (sym m)
+        go false p m = s .masked ∙ sym (m ∙ rw p (or-zero-r (mask earlier)))
+
+    module _ (listed : 0 < e .number) where
+      still : (t .malformed ≡ 0 → SoFar t earlier) → next t e .malformed ≡ 0 → SoFar (next t e) so-far
+      unfolding noted
+      still s z =
+          let (y, x) = else-zero (t .malformed) (cond fits 0 (e .number)) z in
+          let w : (formed && allowed so-far) ≡ true = sym (fits-is (s y)) ∙ kept-zero fits (e .number) listed x in
+          next-schemes (s y) (and-left formed (allowed so-far) w) (and-right formed (allowed so-far) w)
+
+      first-is : (t .malformed ≡ 0 → SoFar t earlier) → (es : List Entry)
+          → orElse (next t e .malformed) (firstMalformed method so-far es) ≡ orElse (t .malformed) (firstMalformed method earlier (e ∷ es))
+      unfolding noted firstMalformed
+      first-is s es =
+          else-assoc (t .malformed) (cond fits 0 (e .number)) (firstMalformed method so-far es)
+          ∙ else-under (t .malformed) (λ z. else-later fits (e .number) (firstMalformed method so-far es) listed ∙ rw (fits-is (s z)))
+
+  malformed-is : (t : Tally) (earlier : List Bool) (es : List Entry) → Listed es → (t .malformed ≡ 0 → SoFar t earlier)
+      → tallied method t es .malformed ≡ orElse (t .malformed) (firstMalformed method earlier es)
+  unfolding tallied firstMalformed
+  malformed-is t earlier [] n s = sym (else-none (t .malformed))
+  malformed-is t earlier (e ∷ es) n s =
+      malformed-is (next t e) (earlier ++ brought e) es (n .1) (still t earlier e (n .0) s) ∙ first-is t earlier e (n .0) s es
 
   -- ---- from the start
 
@@ -96,5 +183,6 @@ module _ (method : List ℕ) where
       pub total-again : tallied method noTally es .again ≡ firstRepeat [] es
       total-again = again-is noTally [] es listed has-none
 
-      pub total-malformed : tallied method noTally es .malformed ≡ firstMalformed method es
-      total-malformed = malformed-is noTally es listed
+      pub total-malformed : tallied method noTally es .malformed ≡ firstMalformed method [] es
+      unfolding allowed mask
+      total-malformed = malformed-is noTally [] es listed (λ z. record { masked = refl; are-allowed = refl })

@@ -12,7 +12,7 @@ use Rattle.sip.specs.declared.Column.the-variants.{Invite, Reinvite, Ack, Bye, 
 use Rattle.sip.specs.Profile.{responseColumn}
 use Rattle.sip.specs.Values.{cseqMethod}
 use Rattle.sip.specs.Refusals.{Answer, refusal, when, isInitial, firstOf}
-use Rattle.sip.specs.Readings.{noSpan}
+use Rattle.sip.specs.Readings.{noSpan, callerAt}
 use Rattle.lines.specs.declared.Slot.{Slot}
 use Rattle.lines.specs.declared.Message.{Message}
 use Rattle.lines.specs.Index.{index}
@@ -108,7 +108,7 @@ refusedFor r =
       body = 0;
       withheld = false;
       tag = noSpan;
-      number = noSpan;
+      caller = callerAt none;
     }
 
 -- by the first reason that applies and by what the kept fields say
@@ -126,7 +126,7 @@ judgedFrom h silent before kept r t rest =
       body = bodyLength t rest;
       withheld = not (eqb (t .withheld) 0);
       tag = t .tag;
-      number = t .number;
+      caller = t .caller;
     }
 
 -- of a request, by the column, the method, the Request-URI and what the kept fields say

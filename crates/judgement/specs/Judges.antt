@@ -2,18 +2,16 @@
 use mathlib.Core.Path.{_≡_}
 use mathlib.Core.Bool.{not}
 use mathlib.Core.List.{List, [], _∷_}
-use mathlib.Core.Option.{none, some}
 use Prim.Native.Nat.{ℕ, _+_, _-_, _≤_}
 use lib.ListN.{length, take, drop}
 use Rattle.octets.specs.Scans.{decimal}
 use Rattle.sip.specs.declared.Span.{Span}
 use Rattle.sip.specs.Lines.{startSize, Header}
 use Rattle.sip.specs.Profile.{ignored}
-use Rattle.sip.specs.Readings.{noSpan, part}
+use Rattle.sip.specs.Readings.{part, callerIn, callerAt}
 use Rattle.sip.specs.Output.{beforeVersion}
 use Rattle.sip.specs.Values.{tagOf}
-use Rattle.sip.specs.Refusals.{refusal, read, lines, Entry, valueOf, messageColumn, keptOf, silent, withheld, Passed, refused, accepted, judgement}
-use Rattle.values.specs.Answers.{identityAt}
+use Rattle.sip.specs.Refusals.{refusal, read, lines, Entry, messageColumn, keptOf, silent, withheld, Passed, refused, accepted, judgement}
 use Rattle.judgement.specs.declared.Judged.{Judged}
 use Rattle.judgement.specs.Sets.{has}
 use Rattle.judgement.specs.Entries.{Within, entriesFrom}
@@ -52,10 +50,8 @@ pub record Passes (m slots : List ℕ) (r : Judged) : Type 0 where
   pub body-there : r .body ≤ length m - r .rest
   pub withheld-is : withheld (message .fields) ≡ r .withheld
   pub told : Told (r .hops) (r .tag) (message .fields)
-  -- the number stands there in the canonical value of its P-Asserted-Identity; no part exactly where it has none
-  pub number-is : (v : List ℕ) → valueOf 15 (message .fields) ≡ some v → identityAt v ≡ r .number
-  pub number-there : (v : List ℕ) → valueOf 15 (message .fields) ≡ some v → r .number .len ≡ 0 → ⊥
-  pub number-none : valueOf 15 (message .fields) ≡ none → r .number ≡ noSpan
+  -- where the caller's number stands in its P-Asserted-Identity fields; field 0 where it asserts no identity
+  pub caller-is : r .caller ≡ callerAt (callerIn (message .fields))
 
 -- a reason of 0 means that none applies
 pub record Judges (m slots : List ℕ) (r : Judged) : Type 0 where

@@ -1,20 +1,28 @@
 -- What a pass over the kept fields carries, and how one field changes it.
 use mathlib.Core.Bool.{Bool, true, not, cond, _&&_, _||_}
 use mathlib.Core.List.{List, [], _∷_}
+use mathlib.Core.Option.{none}
 use Prim.Native.Nat.{ℕ, _+_, _^_}
-use lib.Bits.{bitOr}
+use lib.Bits.{bitAnd, bitOr}
 use lib.Dec.{eqb}
+use Rattle.sip.specs.declared.CallerAt.{CallerAt}
 use Rattle.sip.specs.Profile.{once}
 use Rattle.sip.specs.Values.{isEmpty, isCallId, isCSeq, party}
-use Rattle.sip.specs.Readings.{noSpan}
+use Rattle.sip.specs.Readings.{noSpan, callerAt}
 use Rattle.sip.specs.Refusals.{Entry}
-use Rattle.values.specs.Answers.{wholeNumber, identityAt, privacyAt, requireAt}
+use Rattle.values.specs.declared.AssertedAt.{AssertedAt}
+use Rattle.values.specs.Answers.{wholeNumber, assertedAt, privacyAt, requireAt}
 use Rattle.judgement.specs.declared.Finding.{Finding}
 use Rattle.judgement.specs.declared.Tally.{Tally}
 use Rattle.judgement.specs.Sets.{has}
 
+-- found in a value that asserts no identity
 abbrev pub found : Bool → ℕ → ℕ → Finding
-found good start len = record { good = good; start = start; len = len }
+found good start len = record { good = good; schemes = 0; start = start; len = len }
+
+-- found in a P-Asserted-Identity
+abbrev pub foundAsserted : AssertedAt → Finding
+foundAsserted a = record { good = not (eqb (a .schemes) 0); schemes = a .schemes; start = a .start; len = a .len }
 
 -- Via, Contact, Content-Type, Route, Reason and Record-Route: any value that is not empty
 abbrev pub onlyFilled : ℕ → Bool
@@ -28,7 +36,7 @@ finding method n v =
     let p = party v in
     let privacy = privacyAt v in
     let tags = requireAt v in
-    let number = identityAt v in
+    let asserted = assertedAt v in
     cond (onlyFilled n) (found (not (isEmpty v)) 0 0)
     (cond (eqb n 2) (found (not (eqb (hops .size) 0)) 0 (hops .value))
     (cond (eqb n 3) (found (p .good && not (eqb (p .len) 0)) (p .tag) (p .len))
@@ -37,7 +45,7 @@ finding method n v =
     (cond (eqb n 6) (found (isCSeq method v) 0 0)
     (cond (eqb n 8) (found (not (eqb (cut .size) 0)) 0 (cut .value))
     (cond (eqb n 14) (found (tags .good) (tags .first) (tags .count))
-    (cond (eqb n 15) (found (not (eqb (number .len) 0)) (number .start) (number .len))
+    (cond (eqb n 15) (foundAsserted asserted)
     (cond (eqb n 16) (found (privacy .good) (privacy .first) 0)
     (found true 0 0))))))))))
 
@@ -49,13 +57,23 @@ orElse a b = cond (eqb a 0) b a
 abbrev pub isFirst : Tally → ℕ → ℕ → Bool
 isFirst t k n = eqb n k && not (has (t .seen) k)
 
+-- CR 6: a P-Asserted-Identity that is well formed, and brings no identity of a scheme that came before
+abbrev pub fitting : ℕ → Finding → Bool
+fitting schemes f = f .good && eqb (bitAnd schemes (f .schemes)) 0
+
+-- where the caller's number stands after a P-Asserted-Identity in which f was found: in the first, until a sip identity comes in the second
+abbrev pub callerAfter : ℕ → CallerAt → Finding → CallerAt
+callerAfter schemes caller f =
+    cond (eqb schemes 0 || eqb (f .schemes) 1) (record { field = cond (eqb schemes 0) 1 2; start = f .start; len = f .len }) caller
+
 -- the tally with a field of number n in which f was found
 unfoldable pub noted : Tally → ℕ → Finding → Tally
 noted t n f =
     record {
       seen = bitOr (t .seen) (2 ^ n);
+      schemes = cond (eqb n 15) (bitOr (t .schemes) (f .schemes)) (t .schemes);
       again = orElse (t .again) (cond (once n && has (t .seen) n) n 0);
-      malformed = orElse (t .malformed) (cond (f .good) 0 n);
+      malformed = orElse (t .malformed) (cond (cond (eqb n 15) (fitting (t .schemes) f) (f .good)) 0 n);
       hops = cond (isFirst t 2 n) (f .len) (t .hops);
       tagged = cond (isFirst t 4 n) (f .len) (t .tagged);
       withheld = cond (isFirst t 16 n) (f .start) (t .withheld);
@@ -63,16 +81,17 @@ noted t n f =
       tags = cond (eqb n 14) (t .tags + f .len) (t .tags);
       lacking = cond (eqb n 14) (orElse (t .lacking) (cond (eqb (f .start) 0) 0 (t .tags + f .start))) (t .lacking);
       tag = cond (isFirst t 3 n) (record { start = f .start; len = f .len }) (t .tag);
-      number = cond (isFirst t 15 n) (record { start = f .start; len = f .len }) (t .number);
+      caller = cond (eqb n 15) (callerAfter (t .schemes) (t .caller) f) (t .caller);
     }
 
--- the same in three steps: what is noted of every field, what each Require says, and what the first of the others says
+-- the same in steps: what is noted of every field, what each Require and each P-Asserted-Identity says, and what the first of the others says
 
 -- the tally with these for the set seen, the first that came again and the first malformed one
 abbrev pub recounted : Tally → ℕ → ℕ → ℕ → Tally
 recounted t seen again malformed =
     record {
       seen = seen;
+      schemes = t .schemes;
       again = again;
       malformed = malformed;
       hops = t .hops;
@@ -82,7 +101,7 @@ recounted t seen again malformed =
       tags = t .tags;
       lacking = t .lacking;
       tag = t .tag;
-      number = t .number;
+      caller = t .caller;
     }
 
 unfoldable pub counted : Tally → ℕ → Bool → Tally
@@ -93,6 +112,7 @@ unfoldable pub required : Tally → Finding → Tally
 required t f =
     record {
       seen = t .seen;
+      schemes = t .schemes;
       again = t .again;
       malformed = t .malformed;
       hops = t .hops;
@@ -102,13 +122,31 @@ required t f =
       tags = t .tags + f .len;
       lacking = orElse (t .lacking) (cond (eqb (f .start) 0) 0 (t .tags + f .start));
       tag = t .tag;
-      number = t .number;
+      caller = t .caller;
+    }
+
+unfoldable pub identified : Tally → Finding → Tally
+identified t f =
+    record {
+      seen = t .seen;
+      schemes = bitOr (t .schemes) (f .schemes);
+      again = t .again;
+      malformed = t .malformed;
+      hops = t .hops;
+      tagged = t .tagged;
+      withheld = t .withheld;
+      length = t .length;
+      tags = t .tags;
+      lacking = t .lacking;
+      tag = t .tag;
+      caller = callerAfter (t .schemes) (t .caller) f;
     }
 
 unfoldable pub said : Tally → ℕ → Finding → Tally
 said t n f =
     record {
       seen = t .seen;
+      schemes = t .schemes;
       again = t .again;
       malformed = t .malformed;
       hops = cond (eqb n 2) (f .len) (t .hops);
@@ -118,13 +156,14 @@ said t n f =
       tags = t .tags;
       lacking = t .lacking;
       tag = cond (eqb n 3) (record { start = f .start; len = f .len }) (t .tag);
-      number = cond (eqb n 15) (record { start = f .start; len = f .len }) (t .number);
+      caller = t .caller;
     }
 
 abbrev pub noTally : Tally
 noTally =
     record {
       seen = 0;
+      schemes = 0;
       again = 0;
       malformed = 0;
       hops = 0;
@@ -134,7 +173,7 @@ noTally =
       tags = 0;
       lacking = 0;
       tag = noSpan;
-      number = noSpan;
+      caller = callerAt none;
     }
 
 -- the tally with these fields after it

@@ -15,6 +15,7 @@ fn plain(good: bool) -> Finding
 {
     Finding {
         good,
+        schemes: 0,
         start: 0,
         len: 0,
     }
@@ -26,6 +27,7 @@ pub(crate) fn max_forwards(v: &[u8]) -> Finding
     let hops = values::whole_number(v, 3, 255);
     Finding {
         good: hops.size != 0,
+        schemes: 0,
         start: 0,
         len: hops.value as usize,
     }
@@ -37,6 +39,7 @@ pub(crate) fn from(v: &[u8]) -> Finding
     let p = values::party(v);
     Finding {
         good: p.good && p.len != 0,
+        schemes: 0,
         start: p.tag,
         len: p.len,
     }
@@ -48,6 +51,7 @@ pub(crate) fn to(v: &[u8]) -> Finding
     let p = values::party(v);
     Finding {
         good: p.good,
+        schemes: 0,
         start: 0,
         len: p.len,
     }
@@ -59,6 +63,7 @@ pub(crate) fn content_length(v: &[u8]) -> Finding
     let length = values::whole_number(v, 5, 99999);
     Finding {
         good: length.size != 0,
+        schemes: 0,
         start: 0,
         len: length.value as usize,
     }
@@ -70,6 +75,7 @@ pub(crate) fn require(v: &[u8]) -> Finding
     let tags = values::require(v);
     Finding {
         good: tags.good,
+        schemes: 0,
         start: tags.first,
         len: tags.count,
     }
@@ -78,11 +84,12 @@ pub(crate) fn require(v: &[u8]) -> Finding
 pub(crate) fn identity(v: &[u8]) -> Finding
     ensures { λ r. ⌜ (r ≡ finding [] 15 (now (v .entry))) × (r .start + r .len ≤ length (now (v .entry))) ⌝ }
 {
-    let number = values::identity(v);
+    let a = values::asserted(v);
     Finding {
-        good: number.len != 0,
-        start: number.start,
-        len: number.len,
+        good: a.schemes != 0,
+        schemes: a.schemes,
+        start: a.start,
+        len: a.len,
     }
 }
 
@@ -92,6 +99,7 @@ pub(crate) fn privacy(v: &[u8]) -> Finding
     let tokens = values::privacy(v);
     Finding {
         good: tokens.good,
+        schemes: 0,
         start: tokens.first,
         len: 0,
     }

@@ -38,20 +38,23 @@ pub(crate) struct Lack {
 
 // What is found in one kept value: whether it is well formed, and what later reasons ask of it.
 // Max-Forwards and Content-Length: len is what it says. From: where its tag stands. To: len is the length of its tag (0: none).
-// Require: start is the place of the first tag that we lack (0: none), len the number of tags. P-Asserted-Identity: where its number
-// stands. Privacy: start is the place of the first token that withholds the caller (0: none).
+// Require: start is the place of the first tag that we lack (0: none), len the number of tags. P-Asserted-Identity: the set of the schemes
+// of its identities, 1 for sip and 2 for tel (0 of other fields), and where the number stands that it tells. Privacy: start is the place
+// of the first token that withholds the caller (0: none).
 pub(crate) struct Finding {
     pub good: bool,
+    pub schemes: u32,
     pub start: usize,
     pub len: usize,
 }
 
-// What the kept fields say so far: the set of numbers seen; the first that came again, the first malformed one; what the first
-// Max-Forwards, To (the length of its tag), Privacy (the place of its first token that withholds the caller), Content-Length, From and
-// P-Asserted-Identity say; the required tags counted, and the place of the first that we lack. All are numbers: a bool among them is
-// copied with its padding.
+// What the kept fields say so far: the set of numbers seen, and of the schemes of asserted identities; the first that came again, the
+// first malformed one; what the first Max-Forwards, To (the length of its tag), Privacy (the place of its first token that withholds the
+// caller), Content-Length and From say; the required tags counted, and the place of the first that we lack; where the caller's number
+// stands. All are numbers: a bool among them is copied with its padding.
 pub(crate) struct Tally {
     pub seen: u32,
+    pub schemes: u32,
     pub again: usize,
     pub malformed: usize,
     pub hops: usize,
@@ -61,14 +64,14 @@ pub(crate) struct Tally {
     pub tags: usize,
     pub lacking: usize,
     pub tag: sip::Span,
-    pub number: sip::Span,
+    pub caller: sip::CallerAt,
 }
 
 // A message that no reason but 1 and 16 refuses (reason 0), or the refusal. Of such a message: whether nothing is ever replied to it, how
 // many bytes of its start line stand before the version, the length of its start line, where the bytes after the empty line start, how
 // many slots there are; the set of fields that it keeps, what its Max-Forwards says, the length of its body, whether its caller is
-// withheld, and where the tag stands in its From and the number in its P-Asserted-Identity, both in the canonical value (no part where
-// there is none).
+// withheld, where the tag stands in its From (no part where it has none), and where the caller's number stands in its P-Asserted-Identity
+// fields, both in the canonical value.
 pub struct Judged {
     pub refusal: Refusal,
     pub silent: bool,
@@ -81,7 +84,7 @@ pub struct Judged {
     pub body: usize,
     pub withheld: bool,
     pub tag: sip::Span,
-    pub number: sip::Span,
+    pub caller: sip::CallerAt,
 }
 
 // The set has the number. No number past 31 is in a set.

@@ -4,6 +4,7 @@ use crate::Refusal;
 use crate::Tally;
 use crate::sets;
 use lines::Message;
+use sip::CallerAt;
 use sip::Column;
 use sip::Span;
 ghost use mathlib.Core.Path.{_≡_};
@@ -38,7 +39,11 @@ pub(crate) fn refused(r: Refusal) -> Judged
         body: 0,
         withheld: false,
         tag: Span { start: 0, len: 0 },
-        number: Span { start: 0, len: 0 },
+        caller: CallerAt {
+            field: 0,
+            start: 0,
+            len: 0,
+        },
     }
 }
 
@@ -118,7 +123,7 @@ pub(crate) fn judged(
     ensures { λ x. ⌜ x ≡ judgedFrom m silent before kept r t rest ⌝ }
 {
     let tag = t.tag;
-    let number = t.number;
+    let caller = t.caller;
     Judged {
         refusal: replied(silent, r),
         silent,
@@ -131,6 +136,6 @@ pub(crate) fn judged(
         body: body_of(t, rest),
         withheld: t.withheld != 0,
         tag,
-        number,
+        caller,
     }
 }

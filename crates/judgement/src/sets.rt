@@ -135,7 +135,7 @@ pub(crate) fn mandatory_set(c: Column, empty: bool) -> u32
 }
 
 // What may not repeat.
-const ONCE: u32 = 0b1_1000_0011_1111_1100;
+const ONCE: u32 = 0b1_0000_0011_1111_1100;
 
 pub(crate) fn is_once(n: usize) -> bool
     ensures { λ r. ⌜ r ≡ once n ⌝ }

@@ -4,9 +4,10 @@ use super::Tally;
 use super::findings;
 use super::sets;
 use lines::Slot;
+use sip::CallerAt;
 use sip::Span;
 ghost use mathlib.Core.Path.{_≡_};
-ghost use mathlib.Core.Bool.{false, cond, _&&_};
+ghost use mathlib.Core.Bool.{false, not, cond, _&&_};
 ghost use Prim.Native.Nat.{_+_, _≤_, _<_, _^_};
 ghost use lib.Dec.{eqb};
 ghost use lib.ListN.{length, take, drop};
@@ -15,7 +16,7 @@ ghost use Rattle.sip.specs.Profile.{once};
 ghost use Rattle.sip.specs.Values.{isCSeq};
 ghost use Rattle.judgement.specs.Sets.{has};
 ghost use Rattle.judgement.specs.Entries.{Within, unfoldedBy, entriesFrom};
-ghost use Rattle.judgement.specs.Tallies.{finding, orElse, noted, counted, required, said, noTally, tallied};
+ghost use Rattle.judgement.specs.Tallies.{finding, orElse, fitting, noted, counted, required, identified, said, noTally, tallied};
 ghost use Rattle.judgement.specs.Judged.{takenUp};
 
 // The number of the first field that came again.
@@ -32,6 +33,16 @@ fn again_of(again: usize, seen: u32, n: usize) -> usize
         return n;
     }
     0
+}
+
+// A P-Asserted-Identity that is well formed, and none of whose identities has a scheme that another had before.
+fn fits(schemes: u32, f: Finding) -> bool
+    ensures { λ r. ⌜ r ≡ fitting schemes f ⌝ }
+{
+    if !f.good {
+        return false;
+    }
+    schemes & f.schemes == 0
 }
 
 // The number of the first malformed field.
@@ -84,7 +95,35 @@ fn require(t: Tally, f: Finding) -> Tally
     r
 }
 
-// What the first Max-Forwards, From, To, Content-Length, P-Asserted-Identity and Privacy say.
+// Where the caller's number stands, in the first or the second of the P-Asserted-Identity fields.
+fn caller_in(field: usize, f: Finding) -> CallerAt
+    ensures { λ r. ⌜ r ≡ record { field = field; start = f .start; len = f .len } ⌝ }
+{
+    CallerAt {
+        field,
+        start: f.start,
+        len: f.len,
+    }
+}
+
+// What each P-Asserted-Identity says. A sip identity's number takes the place of a tel one's that came before.
+fn identify(t: Tally, f: Finding) -> Tally
+    ensures { λ r. ⌜ r ≡ identified t f ⌝ }
+{
+    let mut r = t;
+    r.schemes = t.schemes | f.schemes;
+    if t.schemes == 0 {
+        r.caller = caller_in(1, f);
+        return r;
+    }
+    if f.schemes == 1 {
+        r.caller = caller_in(2, f);
+        return r;
+    }
+    r
+}
+
+// What the first Max-Forwards, From, To, Content-Length and Privacy say.
 fn say(t: Tally, n: usize, f: Finding) -> Tally
     ensures { λ r. ⌜ r ≡ said t n f ⌝ }
 {
@@ -109,14 +148,6 @@ fn say(t: Tally, n: usize, f: Finding) -> Tally
         r.length = f.len;
         return r;
     }
-    if n == 15 {
-        let number = Span {
-            start: f.start,
-            len: f.len,
-        };
-        r.number = number;
-        return r;
-    }
     if n == 16 {
         r.withheld = f.start;
         return r;
@@ -129,6 +160,9 @@ fn note(t: Tally, n: usize, f: Finding) -> Tally
     requires { ⌜ (n < 32) × (t .tags + f .len < 2 ^ 32) × (t .tags + f .start < 2 ^ 32) ⌝ }
     ensures { λ r. ⌜ r ≡ noted t n f ⌝ }
 {
+    if n == 15 {
+        return identify(count(t, n, fits(t.schemes, f)), f);
+    }
     let there = count(t, n, f.good);
     if n == 14 {
         return require(there, f);
@@ -155,6 +189,9 @@ fn note_first(t: Tally, n: usize, f: Finding) -> Tally
     requires { ⌜ (n < 32) × (has (t .seen) n ≡ false) × (t .tags + f .len < 2 ^ 32) × (t .tags + f .start < 2 ^ 32) ⌝ }
     ensures { λ r. ⌜ r ≡ noted t n f ⌝ }
 {
+    if n == 15 {
+        return identify(count_first(t, n, fits(t.schemes, f)), f);
+    }
     let there = count_first(t, n, f.good);
     if n == 14 {
         return require(there, f);
@@ -182,17 +219,6 @@ fn take_first(method: &[u8], t: Tally, n: usize, v: &[u8]) -> Tally
             count_first(t, n, f.good)
         }
     }
-}
-
-// Takes up a field by its canonical value.
-fn take_plain(method: &[u8], t: Tally, n: usize, v: &[u8]) -> Tally
-    requires { ⌜ (n < 32) × (length (now v) ≤ 8192) × (t .tags < 2 ^ 31) ⌝ }
-    ensures { λ r. ⌜ r ≡ noted t n (finding (now (method .entry)) n (now (v .entry))) ⌝ }
-{
-    if sets::in_set(t.seen, n) {
-        return note(t, n, findings::finding(method, n, v));
-    }
-    take_first(method, t, n, v)
 }
 
 // What is found in a value of at most 256 bytes with a line break in it.
@@ -233,6 +259,17 @@ fn finding_folded(method: &[u8], n: usize, v: &[u8]) -> Finding
     finding_long(method, n, v)
 }
 
+// What is found in the canonical form of a value, folded or not.
+fn finding_of(method: &[u8], n: usize, v: &[u8], fold: bool) -> Finding
+    requires { ⌜ length (now v) ≤ 8192 ⌝ }
+    ensures { λ r. ⌜ (r ≡ finding (now (method .entry)) n (unfoldedBy fold (now (v .entry)))) × (r .start ≤ 108191) × (r .len ≤ 108191) ⌝ }
+{
+    if fold {
+        return finding_folded(method, n, v);
+    }
+    findings::finding(method, n, v)
+}
+
 // A value, folded or not, is a CSeq with this method.
 pub(crate) fn is_cseq(method: &[u8], v: &[u8], fold: bool) -> bool
     requires { ⌜ length (now v) ≤ 8192 ⌝ }
@@ -255,7 +292,18 @@ pub(crate) fn value_of(message: &[u8], s: Slot) -> &[u8]
     &message[start..end]
 }
 
-// Takes up one field, where it is kept. The bound leaves room to add up the tags of all fields.
+// The first field of its number, with its canonical value in place.
+fn is_new(seen: u32, n: usize, fold: bool) -> bool
+    ensures { λ r. ⌜ r ≡ (not fold && not (has seen n)) ⌝ }
+{
+    if fold {
+        return false;
+    }
+    !sets::in_set(seen, n)
+}
+
+// Takes up one field, where it is kept. All that are not new are noted at one place, so that the tally is changed where it stands. The
+// bound leaves room to add up the tags of all fields.
 fn take_up(message: &[u8], method: &[u8], kept: u32, t: Tally, s: Slot) -> Tally
     requires { ⌜ (length (now message) ≤ 8192) × (s .start + s .len ≤ length (now message)) × (t .tags < 2 ^ 31) ⌝ }
     ensures { λ r. ⌜ (r ≡ takenUp (now (method .entry)) kept (now (message .entry)) t s) × (r .tags ≤ t .tags + 8192) ⌝ }
@@ -265,10 +313,10 @@ fn take_up(message: &[u8], method: &[u8], kept: u32, t: Tally, s: Slot) -> Tally
         return t;
     }
     let v = value_of(message, s);
-    if s.folded {
-        return note(t, n, finding_folded(method, n, v));
+    if is_new(t.seen, n, s.folded) {
+        return take_first(method, t, n, v);
     }
-    take_plain(method, t, n, v)
+    note(t, n, finding_of(method, n, v, s.folded))
 }
 
 // The count. That it is at most 96 is said for the compiler, which then drops the test for a slot past the 96 in each turn.
@@ -295,6 +343,7 @@ pub(crate) fn tally(
 {
     let mut t = Tally {
         seen: 0,
+        schemes: 0,
         again: 0,
         malformed: 0,
         hops: 0,
@@ -304,7 +353,11 @@ pub(crate) fn tally(
         tags: 0,
         lacking: 0,
         tag: Span { start: 0, len: 0 },
-        number: Span { start: 0, len: 0 },
+        caller: CallerAt {
+            field: 0,
+            start: 0,
+            len: 0,
+        },
     };
     let end = bounded(count);
     let mut i = 0;

@@ -95,6 +95,10 @@ settled m e ns =
 
 -- ---- over the slots
 
+-- there are 96 of them
+abbrev pub atMost96 : ℕ → ℕ
+atMost96 count = cond (ltb 96 count) 96 count
+
 unfoldable pub firstSlots : ℕ → List ℕ → List Slot
 firstSlots zero ns = []
 firstSlots (suc i) ns = firstSlots i ns ++ slotAt ns i ∷ []

@@ -3,11 +3,11 @@ ghost use mathlib.Core.Path.{_≡_};
 ghost use Prim.Native.Nat.{_+_, _≤_, _<_};
 ghost use lib.ListN.{length};
 ghost use Rattle.sip.specs.Profile.{numberOf};
-ghost use Rattle.sip.specs.Readings.{spans, count, readingAt, reading};
+ghost use Rattle.sip.specs.Readings.{spans, count, place, readingAt, reading};
 ghost use Rattle.lines.specs.Places.{startAt, fieldAt};
 ghost use Rattle.lines.specs.Finds.{fieldNamed};
 ghost use Rattle.lines.specs.Index.{index, slotAt};
-ghost use Rattle.lines.specs.Passes.{countedIn};
+ghost use Rattle.lines.specs.Passes.{atMost96, firstSlots, spansIn, countedIn};
 use slots::Counted;
 
 mod field;
@@ -144,6 +144,14 @@ pub fn reading_at(message: &[u8], n: u64, k: u64) -> sip::Span
     ensures { λ r. ⌜ (r ≡ readingAt (now (message .entry)) n k) × (r .start + r .len ≤ length (now (message .entry))) ⌝ }
 {
     let found = found_in(message, n, k);
+    found.span
+}
+
+// As `reading_at`, of a message that was read: by the first `count` slots of those that `read` leaves.
+pub fn reading_of(slots: &[u16; 384], count: usize, n: u64, k: u64) -> sip::Span
+    ensures { λ r. ⌜ r ≡ place k (spansIn n (firstSlots (atMost96 count) (now (slots .entry)))) ⌝ }
+{
+    let found = slots::find(slots, slots::at_most_96(count), n, k);
     found.span
 }
 

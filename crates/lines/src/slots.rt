@@ -5,7 +5,7 @@ ghost use mathlib.Core.Path.{_≡_};
 ghost use Prim.Native.Nat.{_+_, _≤_, _<_};
 ghost use lib.ListN.{getD};
 ghost use Rattle.lines.specs.Index.{slotAt};
-ghost use Rattle.lines.specs.Passes.{firstSlots, spansIn, countedIn, counting};
+ghost use Rattle.lines.specs.Passes.{atMost96, firstSlots, spansIn, countedIn, counting};
 
 fn wide(n: u16) -> usize
     ensures { λ r. ⌜ (r ≡ n) × (r < 65536) ⌝ }
@@ -39,6 +39,16 @@ pub(crate) fn slot_at(slots: &[u16; 384], i: usize) -> Slot
         len: number_at(slots, at + 2),
         folded: number_at(slots, at + 3) != 0,
     }
+}
+
+// There are 96 slots.
+pub(crate) fn at_most_96(count: usize) -> usize
+    ensures { λ r. ⌜ (r ≡ atMost96 count) × (r ≤ 96) ⌝ }
+{
+    if 96 < count {
+        return 96;
+    }
+    count
 }
 
 // How many fields there are of a number, and where the value of the k-th of them stands.

@@ -7,7 +7,7 @@ use Rattle.sip.specs.Lines.{joined, folded, trimEnd, trim, canonical}
 use Rattle.sip.specs.Output.{digits, startLine, anonymous, sentValue, line, fieldLines, output}
 use Rattle.sip.specs.Profile.{rows, lookup, numberOf, find, nameOf, once, mark as markOf, columnOf, responseColumn, ignored, mandatory, numbers}
 use Rattle.sip.specs.Refusals.{replied, lines, kept, valueOf, occurs, toTagged, withheld, contentLength, bodyOf, otherScheme, reason7, isUri}
-use Rattle.sip.specs.Refusals.{reason8, firstRepeat, reason9, wellFormed, firstMalformed, reason10, exceeds, reason11, missingOf, reason12}
+use Rattle.sip.specs.Refusals.{reason8, firstRepeat, reason9, wellFormed, brought, firstMalformed, reason10, exceeds, reason11, missingOf, reason12}
 use Rattle.sip.specs.Refusals.{noHops, reason13, allTags, firstLacking, reason14, reason15, reasons, responseReasons, judgedRequest}
 use Rattle.sip.specs.Refusals.{firstCSeqMethod, responseColumnOf, judgedResponse, judgement}
 use Rattle.sip.specs.Screen.{masks, delivered, screened}
@@ -15,7 +15,8 @@ use Rattle.sip.specs.Readings.{named, hasField}
 use Rattle.sip.specs.Values.{isEmpty, isNumber, isMaxForwards, isContentLength, isCSeq, cseqMethod, isCallId, host, port, hostPort, tail}
 use Rattle.sip.specs.Values.{sipFrom, sip}
 use Rattle.sip.specs.Values.{tel, uri, display, bracketed, address, sign, paramValue, paramRest, param, withParam, stops, params, party}
-use Rattle.sip.specs.Values.{isTo, isTagged, isFrom, tagOf, isGlobal, person, identity, isIdentity, tokens, isPrivacy, isRestricting}
+use Rattle.sip.specs.Values.{isTo, isTagged, isFrom, tagOf, isGlobal, person, identity, identities, schemes, allowed, isAsserted, tokens}
+use Rattle.sip.specs.Values.{isPrivacy, isRestricting}
 use Rattle.sip.specs.Values.{restricts, isRequire, requiredTags, firstPlace, isLacking, isShort, isCalled}
 use Rattle.sip.specs.Starred.{linesOf, callWith, call, blankBuffer}
 use Rattle.records.specs.Records.{mark, recordBytes, marked, refusalAt, wholeRecords, limited, recording}
@@ -28,12 +29,13 @@ unfolding text isDigit isHex isToken isUser isParameter isHost isBlank isBreak i
     closes quoted decimal number lower same sameText isVersion requestLine isVersionFirst statusLine start startsCRLF startsBlank
     valueSize shape header any joined folded trimEnd trim canonical digits startLine anonymous sentValue line fieldLines output rows
     lookup numberOf find nameOf once markOf columnOf responseColumn ignored mandatory numbers replied lines kept valueOf occurs
-    toTagged withheld contentLength bodyOf otherScheme reason7 isUri reason8 firstRepeat reason9 wellFormed firstMalformed reason10
+    toTagged withheld contentLength bodyOf otherScheme reason7 isUri reason8 firstRepeat reason9 wellFormed brought firstMalformed reason10
     exceeds reason11 missingOf reason12 noHops reason13 allTags firstLacking reason14 reason15 reasons responseReasons judgedRequest
     firstCSeqMethod responseColumnOf judgedResponse judgement masks delivered screened linesOf callWith call blankBuffer isEmpty
     isNumber isMaxForwards isContentLength isCSeq cseqMethod isCallId host port hostPort tail sipFrom sip tel uri display bracketed
     address sign paramValue paramRest param withParam stops params party isTo isTagged isFrom tagOf isGlobal person identity
-    isIdentity tokens isPrivacy isRestricting restricts isRequire requiredTags firstPlace isLacking isShort isCalled named hasField
+    identities schemes allowed isAsserted tokens isPrivacy isRestricting restricts isRequire requiredTags firstPlace isLacking isShort
+    isCalled named hasField
     mark recordBytes marked refusalAt wholeRecords limited recording groupOf reasonOf outcomeOf history howMany rate table lineOf report
     pair pairs lineText endText printed replayed onSide allLines times examples
 examples-print =

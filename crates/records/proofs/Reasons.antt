@@ -1,7 +1,7 @@
 -- The reasons of a replay: those of the judgement, since the room is enough; none is above 17, and those of a message that is not read are 1 to 5.
 use mathlib.Core.Path.{_≡_, refl, sym, ap, _∙_}
-use mathlib.Core.Bool.{Bool, true, false, not, cond, _&&_}
-use mathlib.Core.List.{List, [], _∷_}
+use mathlib.Core.Bool.{Bool, true, false, cond}
+use mathlib.Core.List.{List}
 use mathlib.Core.Option.{Option, none, some}
 use Prim.Native.Nat.{ℕ, zero, suc, _≤_, _<_}
 use native.Mathlib.Omega.{arith}
@@ -9,20 +9,16 @@ use lib.Dec.{leb, eqb}
 use lib.ListN.{length, drop}
 use borrow.Author.Tests.{leb-true, leb-false, le-leb, lt-leb, eqb-true, eqb-false}
 use Rattle.octets.specs.Classes.{within}
-use Rattle.sip.specs.declared.Column.{Column}
-use Rattle.sip.specs.Lines.{RequestLine, StatusLine, Start, request, response, Header, start, startSize, header}
-use Rattle.sip.specs.Profile.{columnOf, numbers}
-use Rattle.sip.specs.Values.{isEmpty, uri, person, isCalled}
+use Rattle.sip.specs.Lines.{Start, Header, start, startSize, header}
 use Rattle.sip.specs.Output.{output}
-use Rattle.sip.specs.Refusals.{Answer, refusal, silent, replied, Lines, unread, read, lines, headerLines, Entry, toTagged, bodyOf, when, keptOf}
-use Rattle.sip.specs.Refusals.{otherScheme, isUri, firstRepeat, firstMalformed, exceeds, missingOf, noHops, firstLacking, headOr, isInitial}
-use Rattle.sip.specs.Refusals.{reason7, reason8, reason9, reason10, reason11, reason12, reason13, reason14, reason15, firstOf, reasons}
-use Rattle.sip.specs.Refusals.{responseReasons, Passed, passed, Judgement, refused, accepted, judgedRequest, firstCSeqMethod, statusOf}
-use Rattle.sip.specs.Refusals.{responseColumnOf, judgedResponse, judged, judgement}
+use Rattle.sip.specs.Refusals.{Answer, refusal, silent, replied, Lines, unread, read, lines, headerLines, Entry, keptOf}
+use Rattle.sip.specs.Refusals.{Passed, Judgement, refused, accepted, judged, judgement}
 use Rattle.sip.specs.Screen.{masks, delivered, screened}
 use Rattle.sip.specs.Starred.{blankBuffer}
+use Rattle.sip.proofs.Accepted.{methodOf}
 use Rattle.sip.proofs.Change.{demand3}
 use Rattle.sip.proofs.Growth.{growth}
+use Rattle.sip.proofs.Reasons.{OfEach, judged-refused}
 use Rattle.sip.proofs.Tests.{never, in-range}
 use Rattle.judgement.specs.declared.Judged.{Judged}
 use Rattle.judgement.specs.Judges.{Judges}
@@ -35,65 +31,17 @@ record IsLate (n : ℕ) : Type 0 where
   few : n ≤ 17
   roomy : n ≡ 16 → ⊥
 
-early-late : (n : ℕ) → n ≤ 15 → IsLate n
-early-late n h = record { few = omega arith; roomy = λ e. omega (arith, e) }
+late-each : (method : List ℕ) (es : List Entry) → OfEach (λ (a : Answer). IsLate (a .reason)) method es
+late-each method es =
+    record {
+      nine = record { few = omega arith; roomy = λ z. omega (arith, z) };
+      ten = record { few = omega arith; roomy = λ z. omega (arith, z) };
+      other = λ k reply detail missing l p q r. record { few = l; roomy = eqb-false k 16 r };
+      silenced = λ a h. h;
+    }
 
-abbrev Late : Option Answer → Type 0
-Late o = (a : Answer) → o ≡ some a → IsLate (a .reason)
-
-late-number : (t : Bool) (n reply detail missing : ℕ) → n ≤ 15 → Late (when t (refusal n reply detail missing))
-late-number true n reply detail missing h a e = let z : refusal n reply detail missing ≡ a = cc in rw (← z) (early-late n h)
-late-number false n reply detail missing h a e = never (cc)
-
-late-first : (o : Option Answer) (rs : List (Option Answer)) → Late o → Late (firstOf rs) → Late (firstOf (o ∷ rs))
-late-first none rs p q = q
-late-first (some x) rs p q = p
-
-late-none : Late (firstOf [])
-late-none a e = never (cc)
-
-module _ (c : Column) (method : List ℕ) (es : List Entry) (rest : List ℕ) where
-  late9 : Late (reason9 es)
-  unfolding reason9
-  late9 = let n : ℕ = firstRepeat [] es in late-number (not (eqb n 0)) 9 400 n 0 (omega arith)
-
-  late10 : Late (reason10 method es)
-  unfolding reason10
-  late10 = let n : ℕ = firstMalformed method es in late-number (not (eqb n 0)) 10 400 n 0 (omega arith)
-
-  late11 : Late (reason11 es rest)
-  unfolding reason11
-  late11 = late-number (exceeds es rest) 11 400 0 0 (omega arith)
-
-  late12 : Late (reason12 c es rest)
-  unfolding reason12
-  late12 =
-      let ns : List ℕ = missingOf c (isEmpty (bodyOf es rest)) es numbers in
-      late-number (not (isEmpty ns)) 12 400 (headOr 0 ns) (length ns) (omega arith)
-
-  late-response : Late (firstOf (responseReasons c method es rest))
-  unfolding responseReasons
-  late-response =
-      let all : List (Option Answer) = responseReasons c method es rest in
-      late-first (reason9 es) (drop 1 all) late9
-      (late-first (reason10 method es) (drop 2 all) late10
-      (late-first (reason11 es rest) (drop 3 all) late11 (late-first (reason12 c es rest) [] late12 late-none)))
-
-late-request : (c : Column) (l : RequestLine) (es : List Entry) (rest : List ℕ) → Late (firstOf (reasons c l es rest))
-unfolding reasons reason7 reason8 reason13 reason14 reason15
-late-request c l es rest =
-    let all : List (Option Answer) = reasons c l es rest in
-    let lacking : ℕ = firstLacking es in
-    late-first (reason7 l) (drop 1 all) (late-number (otherScheme (l .uri)) 7 416 0 0 (omega arith))
-    (late-first (reason8 l) (drop 2 all) (late-number (not (isUri (l .uri))) 8 400 0 0 (omega arith))
-    (late-first (reason9 es) (drop 3 all) (late9 c (l .method) es rest)
-    (late-first (reason10 (l .method) es) (drop 4 all) (late10 c (l .method) es rest)
-    (late-first (reason11 es rest) (drop 5 all) (late11 c (l .method) es rest)
-    (late-first (reason12 c es rest) (drop 6 all) (late12 c (l .method) es rest)
-    (late-first (reason13 es) (drop 7 all) (late-number (noHops es) 13 483 0 0 (omega arith))
-    (late-first (reason14 es) (drop 8 all) (late-number (not (eqb lacking 0)) 14 420 lacking 0 (omega arith))
-    (late-first (reason15 c l) []
-    (late-number (isInitial c && not (isCalled (person (uri (l .uri)) (l .uri)))) 15 484 0 0 (omega arith)) late-none))))))))
+judged-late : (l : Start) (es : List Entry) (rest : List ℕ) (a : Answer) → judged l es rest ≡ refused a → IsLate (a .reason)
+judged-late l es rest a e = judged-refused (λ (x : Answer). IsLate (x .reason)) l es (late-each (methodOf l es) es) rest a e
 
 replied-reason : (l : Start) (a : Answer) → replied l a .reason ≡ a .reason
 unfolding replied
@@ -102,45 +50,6 @@ replied-reason l a = go (silent l)
     go : (t : Bool) → cond t (refusal (a .reason) 0 (a .detail) (a .missing)) a .reason ≡ a .reason
     go true = refl
     go false = refl
-
--- a refusal of which the reason is known
-known : (n reply : ℕ) (a : Answer) → IsLate n → refused (refusal n reply 0 0) ≡ refused a → IsLate (a .reason)
-known n reply a h e = let z : refusal n reply 0 0 ≡ a = cc in rw (← z) h
-
--- the first reason that applies
-settled-late : (l : Start) (b a : Answer) → IsLate (b .reason) → refused (replied l b) ≡ refused a → IsLate (a .reason)
-settled-late l b a h e = let z : replied l b ≡ a = cc in rw (← z, replied-reason l b) h
-
-request-late : (l : RequestLine) (es : List Entry) (rest : List ℕ) (a : Answer) → judgedRequest l es rest ≡ refused a → IsLate (a .reason)
-unfolding judgedRequest
-request-late l es rest a e = go (columnOf (l .method) (toTagged es)) refl
-  where
-    next : (c : Column) → columnOf (l .method) (toTagged es) ≡ some c → (o : Option Answer) → firstOf (reasons c l es rest) ≡ o
-        → IsLate (a .reason)
-    next c p none x = let z : accepted (passed (request l) es rest) ≡ refused a = rw (p, judgedRequest, x) at e in never (cc)
-    next c p (some b) x = settled-late (request l) b a (late-request c l es rest b x) (rw (p, judgedRequest, x) at e)
-
-    go : (o : Option Column) → columnOf (l .method) (toTagged es) ≡ o → IsLate (a .reason)
-    go none p = known 6 405 a (early-late 6 (omega arith)) (rw (p, judgedRequest) at e)
-    go (some c) p = next c p (firstOf (reasons c l es rest)) refl
-
-response-late : (l : StatusLine) (es : List Entry) (rest : List ℕ) (a : Answer) → judgedResponse l es rest ≡ refused a → IsLate (a .reason)
-unfolding judgedResponse
-response-late l es rest a e = go (within 100 699 (statusOf l)) (responseColumnOf l es) refl refl
-  where
-    next : (c : Column) → within 100 699 (statusOf l) ≡ true → responseColumnOf l es ≡ some c → (o : Option Answer)
-        → firstOf (responseReasons c (firstCSeqMethod es) es rest) ≡ o → IsLate (a .reason)
-    next c p q none x = let z : accepted (passed (response l) es rest) ≡ refused a = rw (p, q, x) at e in never (cc)
-    next c p q (some b) x = settled-late (response l) b a (late-response c (firstCSeqMethod es) es rest b x) (rw (p, q, x) at e)
-
-    go : (t : Bool) (o : Option Column) → within 100 699 (statusOf l) ≡ t → responseColumnOf l es ≡ o → IsLate (a .reason)
-    go false o p q = known 17 0 a (record { few = omega arith; roomy = λ z. omega (arith, z) }) (rw p at e)
-    go true none p q = known 6 0 a (early-late 6 (omega arith)) (rw (p, q) at e)
-    go true (some c) p q = next c p q (firstOf (responseReasons c (firstCSeqMethod es) es rest)) refl
-
-judged-late : (l : Start) (es : List Entry) (rest : List ℕ) (a : Answer) → judged l es rest ≡ refused a → IsLate (a .reason)
-judged-late (request l) es rest a e = request-late l es rest a e
-judged-late (response l) es rest a e = response-late l es rest a e
 
 -- ---- reasons 2 to 5
 

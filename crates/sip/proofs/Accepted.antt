@@ -1,7 +1,7 @@
--- An accepted message is made of the lines that were read, no field repeats that must not, and every value is well formed.
+-- An accepted message is made of the lines that were read, no field repeats that must not, every value is well formed and the identities are allowed.
 use mathlib.Core.Path.{_≡_, refl}
-use mathlib.Core.Bool.{Bool, true, false, not, cond}
-use mathlib.Core.List.{List, [], _∷_}
+use mathlib.Core.Bool.{Bool, true, false, not, cond, _&&_}
+use mathlib.Core.List.{List, [], _∷_, _++_, append-nil}
 use mathlib.Core.Option.{Option, none, some}
 use Prim.Native.Nat.{ℕ}
 use lib.Dec.{eqb}
@@ -11,7 +11,8 @@ use Rattle.sip.specs.declared.Column.{Column}
 use Rattle.octets.specs.Classes.{within}
 use Rattle.sip.specs.Lines.{RequestLine, StatusLine, Start, request, response}
 use Rattle.sip.specs.Profile.{columnOf}
-use Rattle.sip.specs.Refusals.{Answer, refusal, Entry, valueOf, toTagged, when, firstRepeat, wellFormed, firstMalformed}
+use Rattle.sip.specs.Values.{allowed}
+use Rattle.sip.specs.Refusals.{Answer, refusal, Entry, toTagged, when, firstRepeat, wellFormed, brought, firstMalformed}
 use Rattle.sip.specs.Refusals.{reason7, reason8, reason9, reason10, firstOf, reasons, responseReasons, Passed, passed, refused, accepted}
 use Rattle.sip.specs.Refusals.{judgedRequest, firstCSeqMethod, statusOf, responseColumnOf, judgedResponse, judged}
 use Rattle.sip.proofs.Tests.{never}
@@ -31,9 +32,9 @@ none-repeats : (es : List Entry) → reason9 es ≡ none → firstRepeat [] es �
 unfolding reason9
 none-repeats es e = when-none (firstRepeat [] es) (refusal 9 400 (firstRepeat [] es) 0) e
 
-none-malformed : (method : List ℕ) (es : List Entry) → reason10 method es ≡ none → firstMalformed method es ≡ 0
+none-malformed : (method : List ℕ) (es : List Entry) → reason10 method es ≡ none → firstMalformed method [] es ≡ 0
 unfolding reason10
-none-malformed method es e = when-none (firstMalformed method es) (refusal 10 400 (firstMalformed method es) 0) e
+none-malformed method es e = when-none (firstMalformed method [] es) (refusal 10 400 (firstMalformed method [] es) 0) e
 
 -- the method of a message, with which its CSeq is judged
 abbrev pub methodOf : Start → List Entry → List ℕ
@@ -43,7 +44,7 @@ methodOf (response l) es = firstCSeqMethod es
 pub record Accepted (l : Start) (es : List Entry) (rest : List ℕ) (r : Passed) : Type 0 where
   pub made : r ≡ passed l es rest
   pub unrepeated : firstRepeat [] es ≡ 0
-  pub formed : firstMalformed (methodOf l es) es ≡ 0
+  pub formed : firstMalformed (methodOf l es) [] es ≡ 0
 
 -- no judgement is both
 pub not-both : {A : Type 0} {a : Answer} {r : Passed} → refused a ≡ accepted r → A
@@ -94,34 +95,32 @@ pub judged-inv : (l : Start) (es : List Entry) (rest : List ℕ) (r : Passed) �
 judged-inv (request l) es rest r e = request-inv l es rest r e
 judged-inv (response l) es rest r e = response-inv l es rest r e
 
--- ---- so each value is well formed
+-- ---- so each value is well formed, and the identities are allowed
 
 -- a field that is not listed has any value
 unlisted-formed : (method v : List ℕ) → wellFormed method 0 v ≡ true
 unfolding wellFormed
 unlisted-formed method v = refl
 
-first-formed : (method : List ℕ) (e : Entry) (es : List Entry) → firstMalformed method (e ∷ es) ≡ 0
-    → (wellFormed method (e .number) (e .value) ≡ true) × (firstMalformed method es ≡ 0)
-unfolding firstMalformed
-first-formed method e es h = go (wellFormed method (e .number) (e .value)) refl h
-  where
-    go : (t : Bool) → wellFormed method (e .number) (e .value) ≡ t → cond t (firstMalformed method es) (e .number) ≡ 0
-        → (t ≡ true) × (firstMalformed method es ≡ 0)
-    go true p q = (refl, q)
-    go false p q = let z : wellFormed method 0 (e .value) ≡ false = rw q at p in never (cc (unlisted-formed method (e .value)))
+-- and brings no identity
+unlisted-brings : (e : Entry) → e .number ≡ 0 → brought e ≡ []
+unfolding brought
+unlisted-brings e q = rw q
 
-pub value-formed :
-    (method : List ℕ) (es : List Entry) (n : ℕ) (v : List ℕ) → firstMalformed method es ≡ 0 → valueOf n es ≡ some v → wellFormed method n v ≡ true
-unfolding valueOf
-value-formed method [] n v h e = never (cc)
-value-formed method (d ∷ es) n v h e =
-    let (f, others) = first-formed method d es h in
-    go (eqb (d .number) n) refl e f (value-formed method es n v others)
-  where
-    go : (t : Bool) → eqb (d .number) n ≡ t → cond t (some (d .value)) (valueOf n es) ≡ some v → wellFormed method (d .number) (d .value) ≡ true
-        → (valueOf n es ≡ some v → wellFormed method n v ≡ true) → wellFormed method n v ≡ true
-    go true p q f later =
-        let x : d .value ≡ v = cc in
-        rw (eqb-true (d .number) n p, x) at f
-    go false p q f later = later q
+module _ (method : List ℕ) (earlier : List Bool) (e : Entry) (es : List Entry) where
+  pub record FirstFormed : Type 0 where
+    pub is-formed : wellFormed method (e .number) (e .value) ≡ true
+    pub is-allowed : allowed (earlier ++ brought e) ≡ true
+    pub others : firstMalformed method (earlier ++ brought e) es ≡ 0
+
+  pub first-formed : allowed earlier ≡ true → firstMalformed method earlier (e ∷ es) ≡ 0 → FirstFormed
+  unfolding firstMalformed
+  first-formed a h = go (wellFormed method (e .number) (e .value)) (allowed (earlier ++ brought e)) refl refl h
+    where
+      go : (t u : Bool) → wellFormed method (e .number) (e .value) ≡ t → allowed (earlier ++ brought e) ≡ u
+          → cond (t && u) (firstMalformed method (earlier ++ brought e) es) (e .number) ≡ 0 → FirstFormed
+      go true true p q h = record { is-formed = p; is-allowed = q; others = h }
+      go true false p q h =
+          let z : allowed (earlier ++ []) ≡ false = rw (unlisted-brings e h) at q in
+          never (cc (append-nil earlier))
+      go false u p q h = let z : wellFormed method 0 (e .value) ≡ false = rw h at p in never (cc (unlisted-formed method (e .value)))

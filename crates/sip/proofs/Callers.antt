@@ -1,30 +1,35 @@
--- CR 5: of From and P-Asserted-Identity no reason and no masked line sees more than that they are well formed, and From's tag.
+-- CR 5: of From and P-Asserted-Identity no reason and no masked line sees more than that they are not malformed, and From's tag.
 use mathlib.Core.Path.{_≡_, refl, sym, ap, _∙_}
 use mathlib.Core.Bool.{Bool, true, false, cond}
-use mathlib.Core.List.{List, [], _∷_}
+use mathlib.Core.List.{List, [], _∷_, _++_, append-nil}
 use mathlib.Core.Option.{Option, none, some}
 use Prim.Native.Nat.{ℕ, suc, _≤_}
 use lib.Dec.{eqb, leb}
 use lib.ListN.{length, take, drop, take-append-drop}
 use Rattle.octets.specs.Classes.{text}
+use Rattle.octets.specs.Scans.{same}
 use Rattle.sip.specs.declared.Column.{Column}
 use Rattle.sip.specs.Lines.{RequestLine, Start, request, start, startBytes, startSize, Field, Header, header, canonical}
-use Rattle.sip.specs.Profile.{numberOf, columnOf, ignored, numbers}
-use Rattle.sip.specs.Values.{isEmpty, isFrom, tagOf, isIdentity, identity}
+use Rattle.sip.specs.Profile.{rows, find, mark, numberOf, columnOf, ignored, numbers}
+use Rattle.sip.specs.Values.{isEmpty, isFrom, tagOf, allowed}
 use Rattle.sip.specs.Refusals.{Answer, Entry, kept, valueOf, occurs, toTagged, withheld, contentLength, bodyOf, firstRepeat, reason9}
-use Rattle.sip.specs.Refusals.{wellFormed, firstMalformed, reason10, exceeds, reason11, missingOf, reason12, noHops, reason13, allTags}
-use Rattle.sip.specs.Refusals.{firstLacking, reason14, firstOf, reasons, passed, accepted, read, lines, judgedRequest, messageColumn, keptOf, judgement}
+use Rattle.sip.specs.Refusals.{wellFormed, brought, firstMalformed, reason10, exceeds, reason11, missingOf, reason12, noHops, reason13, allTags}
+use Rattle.sip.specs.Refusals.{firstLacking, reason14, firstOf, reasons, passed, accepted, read, lines, judgedRequest, messageColumn}
+use Rattle.sip.specs.Refusals.{keptOf, judgement}
 use Rattle.sip.specs.Output.{sentValue, fieldLines, output}
 use Rattle.sip.specs.Screen.{masks, delivered, concluded, screened}
+use Rattle.sip.specs.Asserted.{IdentitiesAllowed}
 use Rattle.sip.specs.Callers.{OtherCaller, no-fields, equal, other-from, other-identity, TwoCallers}
 use Rattle.sip.specs.Grammar.{HoldsAny, here, later}
 use Rattle.sip.specs.GrammarPromises.{Withholding}
-use Rattle.sip.specs.Promises.{DigitsHidden, EitherWay, AnyValue, EveryPair, CallersRead, NoOtherPair}
+use Rattle.sip.specs.Promises.{DigitsHidden, EitherWay, only, AnyValue, EveryPair, CallersRead, NoOtherPair}
 use Rattle.sip.proofs.Tests.{never}
 use Rattle.sip.proofs.Starts.{request-taken, start-here}
 use Rattle.sip.proofs.Headers.{header-here}
+use Rattle.sip.proofs.Accepted.{first-formed}
+use Rattle.sip.proofs.Allowed.{none-brought, only-one, only-none, allowed-formed, formed-allowed}
 use Rattle.sip.proofs.Change.{lines-shaped, lines-inv}
-use Rattle.sip.proofs.Grammar.Promises.{from-read, identity-read}
+use Rattle.sip.proofs.Grammar.Promises.{from-read}
 use Rattle.sip.proofs.Grammar.Withheld.{withheld-found, withheld-read}
 
 -- ---- the kept fields
@@ -32,39 +37,37 @@ use Rattle.sip.proofs.Grammar.Withheld.{withheld-found, withheld-read}
 abbrev entry : ℕ → List ℕ → Entry
 entry n v = record { number = n; value = v }
 
--- the same numbers in the same places, and the same values but for those of From, which have the same tag, and of P-Asserted-Identity
-data Like : List Entry → List Entry → Type 0 where
-  no-entries : Like [] []
-  same-entry : {e : Entry} {es ds : List Entry} → Like es ds → Like (e ∷ es) (e ∷ ds)
+-- the same numbers in the same places, and the same values but for those of From, which have the same tag, and of P-Asserted-Identity, where P
+-- is asked for
+data Like (P : Type 0) : List Entry → List Entry → Type 0 where
+  no-entries : Like P [] []
+  same-entry : {e : Entry} {es ds : List Entry} → Like P es ds → Like P (e ∷ es) (e ∷ ds)
   two-froms :
-      {v w : List ℕ} {es ds : List Entry} → isFrom v ≡ true → isFrom w ≡ true → tagOf w ≡ tagOf v → Like es ds
-      → Like (entry 3 v ∷ es) (entry 3 w ∷ ds)
-  two-identities :
-      {v w : List ℕ} {es ds : List Entry} → isIdentity v ≡ true → isIdentity w ≡ true → Like es ds
-      → Like (entry 15 v ∷ es) (entry 15 w ∷ ds)
+      {v w : List ℕ} {es ds : List Entry} → isFrom v ≡ true → isFrom w ≡ true → tagOf w ≡ tagOf v → Like P es ds
+      → Like P (entry 3 v ∷ es) (entry 3 w ∷ ds)
+  two-identities : {v w : List ℕ} {es ds : List Entry} → P → Like P es ds → Like P (entry 15 v ∷ es) (entry 15 w ∷ ds)
 
--- where a field is ignored in both, or kept in both
-kept-more : (t : Bool) (e d : Entry) (es ds : List Entry) → Like es ds → (Like es ds → Like (e ∷ es) (d ∷ ds))
-    → Like (cond t es (e ∷ es)) (cond t ds (d ∷ ds))
-kept-more true e d es ds l k = l
-kept-more false e d es ds l k = k l
+module _ {P : Type 0} where
+  -- where a field is ignored in both, or kept in both
+  kept-more : (t : Bool) (e d : Entry) (es ds : List Entry) → Like P es ds → (Like P es ds → Like P (e ∷ es) (d ∷ ds))
+      → Like P (cond t es (e ∷ es)) (cond t ds (d ∷ ds))
+  kept-more true e d es ds l k = l
+  kept-more false e d es ds l k = k l
 
-kept-like : (c : Option Column) {fs gs : List Field} → OtherCaller fs gs → Like (kept c fs) (kept c gs)
-unfolding kept
-kept-like c no-fields = no-entries
-kept-like c (equal {f = f} {fs = fs} {gs = gs} o) =
-    let e = entry (numberOf (f .name)) (canonical (f .value)) in
-    kept-more (ignored c (numberOf (f .name))) e e (kept c fs) (kept c gs) (kept-like c o) (λ l. same-entry l)
-kept-like c (other-from {f = f} {v = v} {fs = fs} {gs = gs} n a b o) =
-    let (x, p) = from-read (canonical (f .value)) _ .1 (_, a) in
-    let (y, q) = from-read (canonical v) _ .1 (_, b) in
-    rw n (kept-more (ignored c 3) (entry 3 (canonical (f .value))) (entry 3 (canonical v)) (kept c fs) (kept c gs) (kept-like c o)
-    (λ l. two-froms x y (q ∙ sym p) l))
-kept-like c (other-identity {f = f} {v = v} {fs = fs} {gs = gs} n a b o) =
-    let (x, p) = identity-read (canonical (f .value)) _ .1 a in
-    let (y, q) = identity-read (canonical v) _ .1 b in
-    rw n (kept-more (ignored c 15) (entry 15 (canonical (f .value))) (entry 15 (canonical v)) (kept c fs) (kept c gs) (kept-like c o)
-    (λ l. two-identities x y l))
+  kept-like : (c : Option Column) {fs gs : List Field} → OtherCaller P fs gs → Like P (kept c fs) (kept c gs)
+  unfolding kept
+  kept-like c no-fields = no-entries
+  kept-like c (equal {f = f} {fs = fs} {gs = gs} o) =
+      let e = entry (numberOf (f .name)) (canonical (f .value)) in
+      kept-more (ignored c (numberOf (f .name))) e e (kept c fs) (kept c gs) (kept-like c o) (λ l. same-entry l)
+  kept-like c (other-from {f = f} {v = v} {fs = fs} {gs = gs} n a b o) =
+      let (x, p) = from-read (canonical (f .value)) _ .1 (_, a) in
+      let (y, q) = from-read (canonical v) _ .1 (_, b) in
+      rw n (kept-more (ignored c 3) (entry 3 (canonical (f .value))) (entry 3 (canonical v)) (kept c fs) (kept c gs) (kept-like c o)
+      (λ l. two-froms x y (q ∙ sym p) l))
+  kept-like c (other-identity {f = f} {v = v} {fs = fs} {gs = gs} n p o) =
+      rw n (kept-more (ignored c 15) (entry 15 (canonical (f .value))) (entry 15 (canonical v)) (kept c fs) (kept c gs) (kept-like c o)
+      (λ l. two-identities p l))
 
 -- ---- what the reasons and the writer see of them
 
@@ -72,52 +75,88 @@ more-value : (n : ℕ) (e : Entry) (es ds : List Entry) → valueOf n ds ≡ val
 unfolding valueOf
 more-value n e es ds h = rw h
 
-value-like : (n : ℕ) → eqb 3 n ≡ false → eqb 15 n ≡ false → {es ds : List Entry} → Like es ds → valueOf n ds ≡ valueOf n es
+value-like : {P : Type 0} (n : ℕ) → eqb 3 n ≡ false → eqb 15 n ≡ false → {es ds : List Entry} → Like P es ds → valueOf n ds ≡ valueOf n es
 unfolding valueOf
 value-like n p q no-entries = refl
 value-like n p q (same-entry {e = e} {es = es} {ds = ds} l) = more-value n e es ds (value-like n p q l)
 value-like n p q (two-froms a b t l) = rw p (value-like n p q l)
-value-like n p q (two-identities a b l) = rw q (value-like n p q l)
+value-like n p q (two-identities k l) = rw q (value-like n p q l)
 
-occurs-like : (n : ℕ) {es ds : List Entry} → Like es ds → occurs n ds ≡ occurs n es
+occurs-like : {P : Type 0} (n : ℕ) {es ds : List Entry} → Like P es ds → occurs n ds ≡ occurs n es
 unfolding occurs
 occurs-like n no-entries = refl
 occurs-like n (same-entry l) = rw (occurs-like n l)
 occurs-like n (two-froms a b t l) = rw (occurs-like n l)
-occurs-like n (two-identities a b l) = rw (occurs-like n l)
+occurs-like n (two-identities p l) = rw (occurs-like n l)
 
-repeat-like : (earlier : List ℕ) {es ds : List Entry} → Like es ds → firstRepeat earlier ds ≡ firstRepeat earlier es
+repeat-like : {P : Type 0} (earlier : List ℕ) {es ds : List Entry} → Like P es ds → firstRepeat earlier ds ≡ firstRepeat earlier es
 unfolding firstRepeat
 repeat-like earlier no-entries = refl
 repeat-like earlier (same-entry {e = e} l) = rw (repeat-like (e .number ∷ earlier) l)
 repeat-like earlier (two-froms a b t l) = rw (repeat-like (3 ∷ earlier) l)
-repeat-like earlier (two-identities a b l) = rw (repeat-like (15 ∷ earlier) l)
+repeat-like earlier (two-identities p l) = rw (repeat-like (15 ∷ earlier) l)
 
-malformed-like : (method : List ℕ) {es ds : List Entry} → Like es ds → firstMalformed method ds ≡ firstMalformed method es
+from-formed : (method v : List ℕ) → isFrom v ≡ true → wellFormed method 3 v ≡ true
+unfolding wellFormed
+from-formed method v e = e
+
+-- where no P-Asserted-Identity differs
+malformed-same : (method : List ℕ) (earlier : List Bool) {es ds : List Entry} → Like ⊥ es ds
+    → firstMalformed method earlier ds ≡ firstMalformed method earlier es
 unfolding firstMalformed wellFormed
-malformed-like method no-entries = refl
-malformed-like method (same-entry l) = rw (malformed-like method l)
-malformed-like method (two-froms a b t l) = rw (a, b) (malformed-like method l)
-malformed-like method (two-identities a b l) = rw (a, b) (malformed-like method l)
+malformed-same method earlier no-entries = refl
+malformed-same method earlier (same-entry {e = e} l) = rw (malformed-same method (earlier ++ brought e) l)
+malformed-same method earlier (two-froms {v = v} {w = w} a b t l) =
+    rw (none-brought (entry 3 v) refl, none-brought (entry 3 w) refl, a, b, malformed-same method (earlier ++ []) l)
+malformed-same method earlier (two-identities p l) = absurd p
 
-missing-like : (c : Column) (empty : Bool) {es ds : List Entry} → Like es ds → (ns : List ℕ) → missingOf c empty ds ns ≡ missingOf c empty es ns
+-- where all are allowed in both: `one` and `other` are what the fields before have brought
+malformed-allowed : {P : Type 0} (method : List ℕ) (one other : List Bool) {es ds : List Entry} → Like P es ds
+    → allowed one ≡ true → allowed other ≡ true
+    → firstMalformed method one (only 15 es) ≡ 0 → firstMalformed method other (only 15 ds) ≡ 0
+    → firstMalformed method other ds ≡ firstMalformed method one es
+unfolding firstMalformed
+malformed-allowed method one other no-entries a b p q = refl
+malformed-allowed method one other (same-entry {e = e} {es = es} {ds = ds} l) a b p q =
+    go (eqb (e .number) 15) refl (λ x y f g h k. malformed-allowed method x y l f g h k)
+  where
+    go : (t : Bool) → eqb (e .number) 15 ≡ t
+        → ((x y : List Bool) → allowed x ≡ true → allowed y ≡ true → firstMalformed method x (only 15 es) ≡ 0 → firstMalformed method y (only 15 ds) ≡ 0
+        → firstMalformed method y ds ≡ firstMalformed method x es)
+        → firstMalformed method other (e ∷ ds) ≡ firstMalformed method one (e ∷ es)
+    go true n ih =
+        let x = first-formed method one e (only 15 es) a (rw (only-one e es n) at p) in
+        let y = first-formed method other e (only 15 ds) b (rw (only-one e ds n) at q) in
+        rw (x .is-formed, x .is-allowed, y .is-allowed) (ih (one ++ brought e) (other ++ brought e) (x .is-allowed) (y .is-allowed) (x .others) (y .others))
+    go false n ih =
+        rw (none-brought e n, append-nil one, append-nil other, a, b, ih one other a b (rw (only-none e es n) at p) (rw (only-none e ds n) at q))
+malformed-allowed method one other (two-froms {v = v} {w = w} {es = es} {ds = ds} f g t l) a b p q =
+    rw (none-brought (entry 3 v) refl, none-brought (entry 3 w) refl, append-nil one, append-nil other, a, b, from-formed method v f, from-formed method w g)
+    (malformed-allowed method one other l a b (rw (only-none (entry 3 v) es refl) at p) (rw (only-none (entry 3 w) ds refl) at q))
+malformed-allowed method one other (two-identities {v = v} {w = w} {es = es} {ds = ds} k l) a b p q =
+    let x = first-formed method one (entry 15 v) (only 15 es) a (rw (only-one (entry 15 v) es refl) at p) in
+    let y = first-formed method other (entry 15 w) (only 15 ds) b (rw (only-one (entry 15 w) ds refl) at q) in
+    rw (x .is-formed, y .is-formed, x .is-allowed, y .is-allowed)
+    (malformed-allowed method (one ++ brought (entry 15 v)) (other ++ brought (entry 15 w)) l (x .is-allowed) (y .is-allowed) (x .others) (y .others))
+
+missing-like : {P : Type 0} (c : Column) (empty : Bool) {es ds : List Entry} → Like P es ds → (ns : List ℕ) → missingOf c empty ds ns ≡ missingOf c empty es ns
 unfolding missingOf
 missing-like c empty l [] = refl
 missing-like c empty l (n ∷ ns) = rw (occurs-like n l, missing-like c empty l ns)
 
-tags-like : {es ds : List Entry} → Like es ds → allTags ds ≡ allTags es
+tags-like : {P : Type 0} {es ds : List Entry} → Like P es ds → allTags ds ≡ allTags es
 unfolding allTags
 tags-like no-entries = refl
 tags-like (same-entry l) = rw (tags-like l)
 tags-like (two-froms a b t l) = tags-like l
-tags-like (two-identities a b l) = tags-like l
+tags-like (two-identities p l) = tags-like l
 
-lines-like : (body : ℕ) {es ds : List Entry} → Like es ds → fieldLines true body ds ≡ fieldLines true body es
+lines-like : {P : Type 0} (body : ℕ) {es ds : List Entry} → Like P es ds → fieldLines true body ds ≡ fieldLines true body es
 unfolding fieldLines sentValue
 lines-like body no-entries = refl
 lines-like body (same-entry l) = rw (lines-like body l)
 lines-like body (two-froms a b t l) = rw (t, lines-like body l)
-lines-like body (two-identities a b l) = lines-like body l
+lines-like body (two-identities p l) = lines-like body l
 
 -- ---- the whole judgement
 
@@ -126,7 +165,8 @@ masked : (es : List Entry) (k : Start) (rest : List ℕ) → withheld es ≡ tru
 unfolding masks
 masked es k rest w = cc
 
-module _ {es ds : List Entry} (l : Like es ds) where
+module _ {P : Type 0} {es ds : List Entry} (l : Like P es ds)
+    (formed : (method : List ℕ) → firstMalformed method [] ds ≡ firstMalformed method [] es) where
   length-like : contentLength ds ≡ contentLength es
   unfolding contentLength
   length-like = rw (contentLength, value-like 8 refl refl l)
@@ -157,7 +197,7 @@ module _ {es ds : List Entry} (l : Like es ds) where
 
   like10 : (method : List ℕ) → reason10 method ds ≡ reason10 method es
   unfolding reason10
-  like10 method = rw (malformed-like method l)
+  like10 method = rw (formed method)
 
   like11 : (rest : List ℕ) → reason11 ds rest ≡ reason11 es rest
   unfolding reason11
@@ -204,11 +244,19 @@ module _ {es ds : List Entry} (l : Like es ds) where
 
 -- ---- the two messages
 
-same-count : {fs gs : List Field} → OtherCaller fs gs → length gs ≡ length fs
-same-count no-fields = refl
-same-count (equal o) = ap suc (same-count o)
-same-count (other-from n a b o) = ap suc (same-count o)
-same-count (other-identity n a b o) = ap suc (same-count o)
+module _ {P : Type 0} where
+  same-count : {fs gs : List Field} → OtherCaller P fs gs → length gs ≡ length fs
+  same-count no-fields = refl
+  same-count (equal o) = ap suc (same-count o)
+  same-count (other-from n a b o) = ap suc (same-count o)
+  same-count (other-identity n p o) = ap suc (same-count o)
+
+  -- a P-Asserted-Identity differs, and P holds; or none does
+  either : {Q : Type 0} {fs gs : List Field} → OtherCaller P fs gs → (P → Q) → (OtherCaller ⊥ fs gs → Q) → Q
+  either no-fields f g = g no-fields
+  either (equal o) f g = either o f (λ x. g (equal x))
+  either (other-from n a b o) f g = either o f (λ x. g (other-from n a b x))
+  either (other-identity n p o) f g = f p
 
 pub no-other-pair : NoOtherPair
 no-other-pair m m′ c =
@@ -218,6 +266,20 @@ no-other-pair m m′ c =
       second-reads = reads m′ (c .fields′) (c .all-shaped′) (c .second) (c .within-bytes′);
       as-many = same-count (c .other-caller);
     }
+
+-- an INVITE keeps P-Asserted-Identity
+invite-keeps : (l : RequestLine) → l .method ≡ text "INVITE" → ignored (columnOf (l .method) false) 15 ≡ false
+unfolding columnOf ignored mark find rows same text
+invite-keeps l e = rw e
+
+formed-like : (method : List ℕ) (c : Option Column) → ignored c 15 ≡ false → {fs gs : List Field}
+    → OtherCaller (IdentitiesAllowed fs × IdentitiesAllowed gs) fs gs → firstMalformed method [] (kept c gs) ≡ firstMalformed method [] (kept c fs)
+unfolding allowed
+formed-like method c i {fs} {gs} o =
+    either o
+    (λ p.
+    malformed-allowed method [] [] (kept-like c o) refl refl (allowed-formed method c i fs (p .0)) (allowed-formed method c i gs (p .1)))
+    (λ x. malformed-same method [] (kept-like c x))
 
 pub digits-hidden : DigitsHidden
 unfolding screened judgement
@@ -239,43 +301,52 @@ digits-hidden m m′ buffer c = go (leb (length (c .fields)) 96) refl
         let e : lines m ≡ read l h = rw (r .first-reads, p) in
         withheld-read m l h (passed l es (c .rest)) e (rw e a) .1 (c .is-withheld)
 
+    column : Option Column
+    column = columnOf (c .line .method) false
+
+    ds : List Entry
+    ds = keptOf l (c .fields′)
+
+    formed : (method : List ℕ) → firstMalformed method [] ds ≡ firstMalformed method [] es
+    formed method = formed-like method column (invite-keeps (c .line) (c .an-invite)) (c .other-caller)
+
     go : (t : Bool) → leb (length (c .fields)) 96 ≡ t → screened m′ 1 buffer ≡ screened m 1 buffer
     go true p =
         rw (r .first-reads, r .second-reads, r .as-many, p)
-        (judged-like (kept-like (columnOf (c .line .method) false) (c .other-caller)) (c .line) (c .rest) buffer (hides p))
+        (judged-like (kept-like column (c .other-caller)) formed (c .line) (c .rest) buffer (hides p))
     go false p = rw (r .first-reads, r .second-reads, r .as-many, p)
 
 -- ---- either way, and no value and no pair is left out
+
+kept-none : ignored none 15 ≡ false
+unfolding ignored
+kept-none = refl
 
 pub any-value : AnyValue
 any-value =
     record {
       of-from =
-          λ f w fs gs n a b t o.
+          λ P f w fs gs n a b t o.
           let (u, x) = from-read (canonical (f .value)) (tagOf (canonical (f .value))) .0 (a, refl) in
           let (u′, y) = from-read (canonical w) (tagOf (canonical (f .value))) .0 (b, t) in
           other-from n x y o;
-      of-identity =
-          λ f w fs gs n a b o.
-          let x = identity-read (canonical (f .value)) (identity (canonical (f .value))) .0 (a, refl) in
-          let y = identity-read (canonical w) (identity (canonical w)) .0 (b, refl) in
-          other-identity n x y o;
+      of-identities = λ method fs h. formed-allowed method none kept-none fs h;
     }
 
-other-way : {fs gs : List Field} → OtherCaller fs gs → OtherCaller gs fs
-other-way no-fields = no-fields
-other-way (equal o) = equal (other-way o)
-other-way (other-from n a b o) = other-from n b a (other-way o)
-other-way (other-identity n a b o) = other-identity n b a (other-way o)
+other-way : {P Q : Type 0} {fs gs : List Field} → (P → Q) → OtherCaller P fs gs → OtherCaller Q gs fs
+other-way k no-fields = no-fields
+other-way k (equal o) = equal (other-way k o)
+other-way k (other-from n a b o) = other-from n b a (other-way k o)
+other-way k (other-identity n p o) = other-identity n (k p) (other-way k o)
 
 -- the same Privacy withholds
-other-withheld : (c : Option Column) {fs gs : List Field} → OtherCaller fs gs → HoldsAny (Withholding c) fs → HoldsAny (Withholding c) gs
+other-withheld : {P : Type 0} (c : Option Column) {fs gs : List Field} → OtherCaller P fs gs → HoldsAny (Withholding c) fs → HoldsAny (Withholding c) gs
 other-withheld c (equal o) (here w) = here w
 other-withheld c (equal o) (later h) = later (other-withheld c o h)
 other-withheld c (other-from n a b o) (here w) = let k = w .a-privacy in never (cc)
 other-withheld c (other-from n a b o) (later h) = later (other-withheld c o h)
-other-withheld c (other-identity n a b o) (here w) = let k = w .a-privacy in never (cc)
-other-withheld c (other-identity n a b o) (later h) = later (other-withheld c o h)
+other-withheld c (other-identity n p o) (here w) = let k = w .a-privacy in never (cc)
+other-withheld c (other-identity n p o) (later h) = later (other-withheld c o h)
 
 pub either-way : EitherWay
 either-way m m′ c =
@@ -289,7 +360,7 @@ either-way m m′ c =
       start-shaped = c .start-shaped;
       all-shaped = c .all-shaped′;
       all-shaped′ = c .all-shaped;
-      other-caller = other-way (c .other-caller);
+      other-caller = other-way (λ p. (p .1, p .0)) (c .other-caller);
       first = c .second;
       second = c .first;
       within-bytes = c .within-bytes′;
@@ -301,7 +372,8 @@ either-way m m′ c =
 module _ (m m′ : List ℕ) (b : length m ≤ 8192) (b′ : length m′ ≤ 8192) where
   pub pair-found : (l : RequestLine) → start m ≡ some (request l) → l .method ≡ text "INVITE"
       → take (startSize (request l)) m ≡ take (startSize (request l)) m′ → (h k : Header) → header 0 (drop (startSize (request l)) m) ≡ some h
-      → header 0 (drop (startSize (request l)) m′) ≡ some k → h .rest ≡ k .rest → OtherCaller (h .fields) (k .fields)
+      → header 0 (drop (startSize (request l)) m′) ≡ some k → h .rest ≡ k .rest
+      → OtherCaller (IdentitiesAllowed (h .fields) × IdentitiesAllowed (k .fields)) (h .fields) (k .fields)
       → HoldsAny (Withholding (messageColumn (request l) (h .fields))) (h .fields) → TwoCallers m m′
   pair-found l p i t h k q r e o w =
       let n = startSize (request l) in

@@ -14,6 +14,7 @@ pub mod Addresses
 pub mod Parties
 pub mod Unique
 pub mod Numbers
+pub mod Identities
 pub mod Methods
 pub mod RequestUris
 pub mod Fields

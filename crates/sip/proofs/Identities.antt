@@ -1,16 +1,19 @@
--- The number of a well-formed identity lies within it and holds no gap byte.
+-- The numbers of the identities of a value lie within it and hold no gap byte.
 use mathlib.Core.Path.{_≡_, refl, ap, _∙_}
-use mathlib.Core.Bool.{true, false, not, _&&_}
+use mathlib.Core.Bool.{Bool, true, false, not, cond, _&&_, _||_}
 use mathlib.Core.List.{List, [], _∷_}
 use Prim.Native.Nat.{ℕ, _+_, _≤_, _<_}
 use native.Mathlib.Omega.{arith}
 use lib.Dec.{eqb}
-use lib.ListN.{length, drop, length-drop}
+use lib.ListN.{length, take, drop, length-drop}
+use lib.Seq.{drop-drop}
 use borrow.Author.Tests.{eqb-true, eqb-false, ne-eqb, not-true}
 use Rattle.octets.specs.Classes.{within, isDigit, isBlank, isBreak, isGap}
 use Rattle.octets.specs.Scans.{run, all, starts, any}
 use Rattle.octets.proofs.Runs.{whole-all}
-use Rattle.sip.specs.Values.{address, personSize, identity, isGlobal, isIdentity}
+use Rattle.sip.specs.declared.AddressAt.{AddressAt}
+use Rattle.sip.specs.declared.IdentityAt.{IdentityAt}
+use Rattle.sip.specs.Values.{address, personSize, person, sign, isGlobal, noIdentity, identity, after, identities, numberIn}
 use Rattle.sip.proofs.Tests.{and-left, and-right, range-low, byte-start, all-first, all-others}
 use Rattle.sip.proofs.Addresses.{address-within}
 
@@ -42,22 +45,92 @@ global-no-gap : (s : List ℕ) → isGlobal s ≡ true → any isGap s ≡ false
 unfolding any isGap isBlank isBreak
 global-no-gap s e = ap (any isGap) (byte-start 43 s (global-digits s e .0)) ∙ digits-no-gap (drop 1 s) (global-digits s e .1)
 
--- ---- an identity: no gap stands in its number
+-- ---- the identities of a value: no gap stands in a number
 
-pub record PlainIdentity (v : List ℕ) : Type 0 where
-  pub long : 0 < length v
-  pub within-bytes : address v .at + 4 + personSize (address v .uri) ≤ length v
-  pub plain : any isGap (identity v) ≡ false
+pub record Stands (v : List ℕ) (i : IdentityAt) : Type 0 where
+  pub within-bytes : i .start + i .len ≤ length v
+  pub plain : any isGap (numberIn v i) ≡ false
 
-pub identity-inv : (v : List ℕ) → isIdentity v ≡ true → PlainIdentity v
-unfolding isIdentity
-identity-inv v e =
-    let a : not (eqb (address v .size) 0) ≡ true = and-left _ _ e in
-    let b : (eqb (address v .size) (length v) && isGlobal (identity v)) ≡ true = and-right (not (eqb (address v .size) 0)) _ e in
-    let some-bytes : 0 < address v .size = omega (arith, eqb-false (address v .size) 0 (not-true _ a)) in
-    let whole : address v .size ≡ length v = eqb-true (address v .size) (length v) (and-left _ _ b) in
-    record {
-      long = omega arith;
-      within-bytes = omega (arith, address-within v some-bytes);
-      plain = global-no-gap (identity v) (and-right (eqb (address v .size) (length v)) _ b);
-    }
+pub data AllStand (v : List ℕ) : List IdentityAt → Type 0 where
+  none-stands : AllStand v []
+  also-stands : {i : IdentityAt} {is : List IdentityAt} → Stands v i → AllStand v is → AllStand v (i ∷ is)
+
+-- an identity after n bytes of the value
+identity-stands : (n : ℕ) (v : List ℕ) → 0 < identity (drop n v) .size → n + identity (drop n v) .size ≤ length v → Stands v (after n (identity (drop n v)))
+unfolding identity person
+identity-stands n v = go (not (eqb (a .size) 0)) (isGlobal (person (a .uri) (drop (a .at) s))) refl refl
+  where
+    s : List ℕ
+    s = drop n v
+
+    a : AddressAt
+    a = address s
+
+    here : IdentityAt
+    here = record { size = a .size; tel = a .uri .tel; start = a .at + 4; len = personSize (a .uri) }
+
+    number-is : take (personSize (a .uri)) (drop (n + (a .at + 4)) v) ≡ person (a .uri) (drop (a .at) s)
+    number-is = rw (← drop-drop (a .at + 4) n v, ← drop-drop 4 (a .at) s)
+
+    go : (t u : Bool) → not (eqb (a .size) 0) ≡ t → isGlobal (person (a .uri) (drop (a .at) s)) ≡ u → 0 < cond (t && u) here noIdentity .size
+        → n + cond (t && u) here noIdentity .size ≤ length v → Stands v (after n (cond (t && u) here noIdentity))
+    go false u p q h w = absurd (omega arith)
+    go true false p q h w = absurd (omega arith)
+    go true true p q h w =
+        let some-bytes : 0 < a .size = omega (arith, eqb-false (a .size) 0 (not-true _ p)) in
+        record {
+          within-bytes = omega (arith, address-within s some-bytes);
+          plain = rw number-is (global-no-gap (person (a .uri) (drop (a .at) s)) q);
+        }
+
+-- and one that stands at its front
+first-stands : (v : List ℕ) (i : IdentityAt) → Stands v (after 0 i) → Stands v i
+first-stands v i s =
+    let z : 0 + i .start ≡ i .start = omega arith in
+    record { within-bytes = omega (arith, s .within-bytes); plain = rw z at (s .plain) }
+
+-- what is found in a value: nothing, an identity that fills it, or two that fill it with a comma between them
+abbrev pub comma : List ℕ → ℕ
+comma v = sign 44 (drop (identity v .size) v)
+
+abbrev pub second : List ℕ → ℕ
+second v = identity v .size + comma v
+
+pub data Found (v : List ℕ) : List IdentityAt → Type 0 where
+  nothing-found : Found v []
+  one-found : (identity v .size ≡ 0 → ⊥) → identity v .size ≡ length v → Found v (identity v ∷ [])
+  two-found :
+      (identity v .size ≡ 0 → ⊥) → (comma v ≡ 0 → ⊥) → (identity (drop (second v) v) .size ≡ 0 → ⊥)
+      → second v + identity (drop (second v) v) .size ≡ length v → Found v (identity v ∷ after (second v) (identity (drop (second v) v)) ∷ [])
+
+pub found-in-value : (v : List ℕ) → Found v (identities v)
+unfolding identities
+found-in-value v =
+    go (eqb (a .size) 0) (eqb (a .size) (length v)) (eqb (comma v) 0) (eqb (b .size) 0) (eqb (second v + b .size) (length v)) refl refl refl refl refl
+  where
+    a : IdentityAt
+    a = identity v
+
+    b : IdentityAt
+    b = identity (drop (second v) v)
+
+    go : (p q r s t : Bool) → eqb (a .size) 0 ≡ p → eqb (a .size) (length v) ≡ q → eqb (comma v) 0 ≡ r → eqb (b .size) 0 ≡ s
+        → eqb (second v + b .size) (length v) ≡ t
+        → Found v (cond p [] (cond q (a ∷ []) (cond (r || s) [] (cond t (a ∷ after (second v) b ∷ []) []))))
+    go true q r s t hp hq hr hs ht = nothing-found
+    go false true r s t hp hq hr hs ht = one-found (eqb-false (a .size) 0 hp) (eqb-true (a .size) (length v) hq)
+    go false false true s t hp hq hr hs ht = nothing-found
+    go false false false true t hp hq hr hs ht = nothing-found
+    go false false false false false hp hq hr hs ht = nothing-found
+    go false false false false true hp hq hr hs ht =
+        two-found (eqb-false (a .size) 0 hp) (eqb-false (comma v) 0 hr) (eqb-false (b .size) 0 hs) (eqb-true (second v + b .size) (length v) ht)
+
+all-stand : (v : List ℕ) {is : List IdentityAt} → Found v is → AllStand v is
+all-stand v nothing-found = none-stands
+all-stand v (one-found n q) = also-stands (first-stands v (identity v) (identity-stands 0 v (omega (arith, n)) (omega (arith, q)))) none-stands
+all-stand v (two-found n m l q) =
+    also-stands (first-stands v (identity v) (identity-stands 0 v (omega (arith, n)) (omega (arith, q))))
+    (also-stands (identity-stands (second v) v (omega (arith, l)) (omega (arith, q))) none-stands)
+
+pub identities-stand : (v : List ℕ) → AllStand v (identities v)
+identities-stand v = all-stand v (found-in-value v)

@@ -28,5 +28,9 @@ pub mod Identities
 pub mod Tags
 pub mod Calling
 pub mod Grammar
+pub mod Allowed
+pub mod Asserted
 pub mod Callers
 pub mod Pairs
+pub mod Reasons
+pub mod Named

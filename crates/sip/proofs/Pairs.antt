@@ -11,14 +11,16 @@ use Rattle.octets.specs.Classes.{text}
 use Rattle.octets.specs.Scans.{same}
 use Rattle.sip.specs.Lines.{RequestLine, Start, request, response, start, startSize, Field, Header, header, canonical}
 use Rattle.sip.specs.Profile.{numberOf, ignored}
-use Rattle.sip.specs.Values.{isFrom, tagOf, isIdentity, restricts}
+use Rattle.sip.specs.Values.{isFrom, tagOf, restricts}
 use Rattle.sip.specs.declared.Column.{Column}
-use Rattle.sip.specs.Refusals.{messageColumn}
+use Rattle.sip.specs.Refusals.{kept, firstMalformed, messageColumn}
+use Rattle.sip.specs.Promises.{only}
 use Rattle.sip.specs.Grammar.{HoldsAny, here, later}
 use Rattle.sip.specs.GrammarPromises.{Withholding}
 use Rattle.sip.specs.Screen.{Screened, screened}
 use Rattle.sip.specs.Hidden.{Pair, alike, apart, handedBack, PairHolds, PairsHold, no-pair, pair}
-use Rattle.sip.specs.Callers.{withValue, OtherCaller, no-fields, equal, TwoCallers}
+use Rattle.sip.specs.Asserted.{IdentitiesAllowed}
+use Rattle.sip.specs.Callers.{withValue, OtherCaller, no-fields, equal, other-identity, TwoCallers}
 use Rattle.sip.proofs.Tests.{never, and-left, and-right}
 use Rattle.sip.proofs.Texts.{same-eq, same-refl}
 use Rattle.sip.proofs.Callers.{any-value, pair-found}
@@ -30,68 +32,74 @@ differ s t e p = let z : same t t ≡ false = rw p at e in never (let w = same-r
 
 -- ---- the fields
 
--- two canonical values of one field; the flags: the values are equal as written, the field is From, it is P-Asserted-Identity
-abbrev twoValues : Bool → Bool → Bool → List ℕ → List ℕ → Bool
-twoValues true fromField identityField v w = true
-twoValues false true identityField v w = isFrom v && (isFrom w && same (tagOf v) (tagOf w))
-twoValues false false true v w = isIdentity v && isIdentity w
-twoValues false false false v w = false
+-- the identities of a message are allowed
+unfoldable pub areAllowed : List Field → Bool
+areAllowed fs = eqb (firstMalformed [] [] (only 15 (kept none fs))) 0
 
-abbrev valuesOf : Field → Field → Bool
-valuesOf f g =
-    twoValues (same (f .value) (g .value)) (eqb (numberOf (f .name)) 3) (eqb (numberOf (f .name)) 15) (canonical (f .value))
+-- two canonical values of one field; the flags: the identities of both messages are allowed, the values are equal as written, the field is
+-- From, it is P-Asserted-Identity
+abbrev twoValues : Bool → Bool → Bool → Bool → List ℕ → List ℕ → Bool
+twoValues both true fromField identityField v w = true
+twoValues both false true identityField v w = isFrom v && (isFrom w && same (tagOf v) (tagOf w))
+twoValues both false false true v w = both
+twoValues both false false false v w = false
+
+abbrev valuesOf : Bool → Field → Field → Bool
+valuesOf both f g =
+    twoValues both (same (f .value) (g .value)) (eqb (numberOf (f .name)) 3) (eqb (numberOf (f .name)) 15) (canonical (f .value))
     (canonical (g .value))
 
-unfoldable pub twoFields : List Field → List Field → Bool
-twoFields [] [] = true
-twoFields [] (g ∷ gs) = false
-twoFields (f ∷ fs) [] = false
-twoFields (f ∷ fs) (g ∷ gs) =
-    let others = twoFields fs gs in
-    same (f .name) (g .name) && (same (f .gap) (g .gap) && (valuesOf f g && others))
+unfoldable pub twoFields : Bool → List Field → List Field → Bool
+twoFields both [] [] = true
+twoFields both [] (g ∷ gs) = false
+twoFields both (f ∷ fs) [] = false
+twoFields both (f ∷ fs) (g ∷ gs) =
+    let others = twoFields both fs gs in
+    same (f .name) (g .name) && (same (f .gap) (g .gap) && (valuesOf both f g && others))
 
 -- two fields of one name and gap in front
-module _ (f : Field) (w : List ℕ) (fs gs : List Field) (o : OtherCaller fs gs) where
-  abbrev c : List ℕ
-  c = canonical (f .value)
+module _ {P : Type 0} (both : Bool) (allowing : both ≡ true → P) where
+  module _ (f : Field) (w : List ℕ) (fs gs : List Field) (o : OtherCaller P fs gs) where
+    abbrev c : List ℕ
+    c = canonical (f .value)
 
-  abbrev d : List ℕ
-  d = canonical w
+    abbrev d : List ℕ
+    d = canonical w
 
-  two-froms : numberOf (f .name) ≡ 3 → (isFrom c && (isFrom d && same (tagOf c) (tagOf d))) ≡ true → OtherCaller (f ∷ fs) (withValue f w ∷ gs)
-  two-froms n e =
-      let a = and-right (isFrom c) (isFrom d && same (tagOf c) (tagOf d)) e in
-      let t = same-eq (tagOf c) (tagOf d) (and-right (isFrom d) (same (tagOf c) (tagOf d)) a) in
-      any-value .of-from f w fs gs n (and-left (isFrom c) (isFrom d && same (tagOf c) (tagOf d)) e)
-      (and-left (isFrom d) (same (tagOf c) (tagOf d)) a) (sym t) o
+    two-froms : numberOf (f .name) ≡ 3 → (isFrom c && (isFrom d && same (tagOf c) (tagOf d))) ≡ true → OtherCaller P (f ∷ fs) (withValue f w ∷ gs)
+    two-froms n e =
+        let a = and-right (isFrom c) (isFrom d && same (tagOf c) (tagOf d)) e in
+        let t = same-eq (tagOf c) (tagOf d) (and-right (isFrom d) (same (tagOf c) (tagOf d)) a) in
+        any-value .of-from P f w fs gs n (and-left (isFrom c) (isFrom d && same (tagOf c) (tagOf d)) e)
+        (and-left (isFrom d) (same (tagOf c) (tagOf d)) a) (sym t) o
 
-  two-identities : numberOf (f .name) ≡ 15 → (isIdentity c && isIdentity d) ≡ true → OtherCaller (f ∷ fs) (withValue f w ∷ gs)
-  two-identities n e =
-      any-value .of-identity f w fs gs n (and-left (isIdentity c) (isIdentity d) e) (and-right (isIdentity c) (isIdentity d) e) o
+    two-values : valuesOf both f (withValue f w) ≡ true → OtherCaller P (f ∷ fs) (withValue f w ∷ gs)
+    two-values e = go (same (f .value) w) (eqb (numberOf (f .name)) 3) (eqb (numberOf (f .name)) 15) refl refl refl e
+      where
+        go : (s t i : Bool) → same (f .value) w ≡ s → eqb (numberOf (f .name)) 3 ≡ t → eqb (numberOf (f .name)) 15 ≡ i
+            → twoValues both s t i c d ≡ true → OtherCaller P (f ∷ fs) (withValue f w ∷ gs)
+        go true t i p q r e = rw (← same-eq (f .value) w p) (equal o)
+        go false true i p q r e = two-froms (eqb-true (numberOf (f .name)) 3 q) e
+        go false false true p q r e = other-identity (eqb-true (numberOf (f .name)) 15 r) (allowing e) o
+        go false false false p q r e = never (cc)
 
-  two-values : valuesOf f (withValue f w) ≡ true → OtherCaller (f ∷ fs) (withValue f w ∷ gs)
-  two-values e = go (same (f .value) w) (eqb (numberOf (f .name)) 3) (eqb (numberOf (f .name)) 15) refl refl refl e
-    where
-      go : (s t i : Bool) → same (f .value) w ≡ s → eqb (numberOf (f .name)) 3 ≡ t → eqb (numberOf (f .name)) 15 ≡ i → twoValues s t i c d ≡ true
-          → OtherCaller (f ∷ fs) (withValue f w ∷ gs)
-      go true t i p q r e = rw (← same-eq (f .value) w p) (equal o)
-      go false true i p q r e = two-froms (eqb-true (numberOf (f .name)) 3 q) e
-      go false false true p q r e = two-identities (eqb-true (numberOf (f .name)) 15 r) e
-      go false false false p q r e = never (cc)
+  fields-pair : (fs gs : List Field) → twoFields both fs gs ≡ true → OtherCaller P fs gs
+  unfolding twoFields
+  fields-pair [] [] e = no-fields
+  fields-pair [] (g ∷ gs) e = never (cc)
+  fields-pair (f ∷ fs) [] e = never (cc)
+  fields-pair (f ∷ fs) (g ∷ gs) e =
+      let values = valuesOf both f g in
+      let a = and-right (same (f .name) (g .name)) (same (f .gap) (g .gap) && (values && twoFields both fs gs)) e in
+      let b = and-right (same (f .gap) (g .gap)) (values && twoFields both fs gs) a in
+      let n : f .name ≡ g .name = same-eq (f .name) (g .name) (and-left (same (f .name) (g .name)) _ e) in
+      let p : f .gap ≡ g .gap = same-eq (f .gap) (g .gap) (and-left (same (f .gap) (g .gap)) _ a) in
+      let k : withValue f (g .value) ≡ g = rw (n, p) in
+      rw (← k) (two-values f (g .value) fs gs (fields-pair fs gs (and-right values (twoFields both fs gs) b)) (and-left values (twoFields both fs gs) b))
 
-fields-pair : (fs gs : List Field) → twoFields fs gs ≡ true → OtherCaller fs gs
-unfolding twoFields
-fields-pair [] [] e = no-fields
-fields-pair [] (g ∷ gs) e = never (cc)
-fields-pair (f ∷ fs) [] e = never (cc)
-fields-pair (f ∷ fs) (g ∷ gs) e =
-    let values = valuesOf f g in
-    let a = and-right (same (f .name) (g .name)) (same (f .gap) (g .gap) && (values && twoFields fs gs)) e in
-    let b = and-right (same (f .gap) (g .gap)) (values && twoFields fs gs) a in
-    let n : f .name ≡ g .name = same-eq (f .name) (g .name) (and-left (same (f .name) (g .name)) _ e) in
-    let p : f .gap ≡ g .gap = same-eq (f .gap) (g .gap) (and-left (same (f .gap) (g .gap)) _ a) in
-    let k : withValue f (g .value) ≡ g = rw (n, p) in
-    rw (← k) (two-values f (g .value) fs gs (fields-pair fs gs (and-right values (twoFields fs gs) b)) (and-left values (twoFields fs gs) b))
+are-allowed : (fs : List Field) → areAllowed fs ≡ true → IdentitiesAllowed fs
+unfolding areAllowed
+are-allowed fs e = any-value .of-identities [] fs (eqb-true _ 0 e)
 
 -- any of them withholds
 unfoldable pub anyWithholds : Option Column → List Field → Bool
@@ -122,7 +130,8 @@ unfoldable pub twoHeaders : RequestLine → Option Header → Option Header → 
 twoHeaders l none o = false
 twoHeaders l (some h) none = false
 twoHeaders l (some h) (some k) =
-    same (h .rest) (k .rest) && (twoFields (h .fields) (k .fields) && anyWithholds (messageColumn (request l) (h .fields)) (h .fields))
+    same (h .rest) (k .rest)
+    && (twoFields (areAllowed (h .fields) && areAllowed (k .fields)) (h .fields) (k .fields) && anyWithholds (messageColumn (request l) (h .fields)) (h .fields))
 
 unfoldable pub twoStarts : List ℕ → List ℕ → Option Start → Bool
 twoStarts m m′ none = false
@@ -153,9 +162,12 @@ module _ (m m′ : List ℕ) (b : length m ≤ 8192) (b′ : length m′ ≤ 819
       go i t (some h) none q r c = never (cc)
       go i t (some h) (some k) q r c =
           let d = and-right (same (h .rest) (k .rest)) _ c in
+          let x = areAllowed (h .fields) in
+          let y = areAllowed (k .fields) in
           pair-found m m′ b b′ l p i t h k q r (same-eq (h .rest) (k .rest) (and-left (same (h .rest) (k .rest)) _ c))
-          (fields-pair (h .fields) (k .fields) (and-left (twoFields (h .fields) (k .fields)) _ d))
-          (any-withholds (messageColumn (request l) (h .fields)) (h .fields) (and-right (twoFields (h .fields) (k .fields)) _ d))
+          (fields-pair (x && y) (λ e. (are-allowed (h .fields) (and-left x y e), are-allowed (k .fields) (and-right x y e))) (h .fields) (k .fields)
+          (and-left (twoFields (x && y) (h .fields) (k .fields)) _ d))
+          (any-withholds (messageColumn (request l) (h .fields)) (h .fields) (and-right (twoFields (x && y) (h .fields) (k .fields)) _ d))
 
 pub callers-found : (m m′ : List ℕ) → areTwoCallers m m′ ≡ true → TwoCallers m m′
 unfolding areTwoCallers

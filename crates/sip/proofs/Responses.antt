@@ -12,16 +12,16 @@ use Rattle.sip.specs.declared.Column.{Column}
 use Rattle.sip.specs.declared.Column.the-variants.{InviteSuccess, CancelResponse, OtherResponse}
 use Rattle.sip.specs.Lines.{StatusLine, Start, response, start, startSize, Header, header}
 use Rattle.sip.specs.Profile.{rows, find, mark, ignored, responseColumn}
-use Rattle.sip.specs.Refusals.{Answer, refusal, silent, replied, Lines, unread, lines, read, Entry, valueOf, withheld, firstOf}
+use Rattle.sip.specs.Refusals.{Answer, refusal, silent, replied, Lines, unread, lines, read, Entry, withheld, firstOf}
 use Rattle.sip.specs.Refusals.{Passed, passed, Judgement, refused, accepted, firstCSeqMethod, statusOf, responseReasons}
 use Rattle.sip.specs.Refusals.{responseColumnOf, judgedResponse, messageColumn, keptOf, judgement}
 use Rattle.sip.specs.Values.{isGlobal}
 use Rattle.sip.specs.Screen.{delivered, screened}
-use Rattle.sip.specs.Readings.{callingNumber}
+use Rattle.sip.specs.Readings.{callerIn, callingNumber}
 use Rattle.sip.specs.Promises.{NoReply, NothingAnonymous, ResponseCalling}
 use Rattle.sip.proofs.Tests.{never}
 use Rattle.sip.proofs.Accepted.{not-both, judged-inv}
-use Rattle.sip.proofs.Firsts.{ignored-none, column-once}
+use Rattle.sip.proofs.Firsts.{ignored-none, none-asserted, column-once}
 use Rattle.sip.proofs.Masked.{only-withheld-masked}
 
 -- ---- no reply
@@ -108,9 +108,9 @@ module _ (m : List ℕ) (l : StatusLine) (h : Header) (e : lines m ≡ read (res
   -- what all columns of responses ignore is not among the kept fields
   module _ (n : ℕ) (i : ignored (some InviteSuccess) n ≡ true) (x : ignored (some CancelResponse) n ≡ true)
       (o : ignored (some OtherResponse) n ≡ true) where
-    none-kept : (r : Passed) → judgement m ≡ accepted r → valueOf n es ≡ none
+    all-ignore : (r : Passed) → judgement m ≡ accepted r → ignored column n ≡ true
     unfolding judgedResponse responseColumnOf
-    none-kept r q = ignored-none column n (go column (within 100 699 (statusOf l)) refl refl) (h .fields)
+    all-ignore r q = go column (within 100 699 (statusOf l)) refl refl
       where
         once : responseColumnOf l es ≡ column
         once = column-once l (h .fields)
@@ -126,7 +126,7 @@ module _ (m : List ℕ) (l : StatusLine) (h : Header) (e : lines m ≡ read (res
 
   not-withheld : (r : Passed) → judgement m ≡ accepted r → withheld (r .fields) ≡ false
   unfolding withheld ignored mark find rows
-  not-withheld r q = rw (made r q, none-kept 16 refl refl refl r q) refl
+  not-withheld r q = rw (made r q, ignored-none column 16 (all-ignore 16 refl refl refl r q) (h .fields)) refl
 
   same-sides : (buffer : List ℕ) → screened m 1 buffer ≡ screened m 0 buffer
   unfolding screened
@@ -139,8 +139,8 @@ module _ (m : List ℕ) (l : StatusLine) (h : Header) (e : lines m ≡ read (res
   -- ---- the trunk number
 
   trunk-number : (r : Passed) → judgement m ≡ accepted r → (trunk : List ℕ) → isGlobal trunk ≡ true → callingNumber m trunk ≡ trunk
-  unfolding callingNumber ignored mark find rows
-  trunk-number r q trunk g = rw (g, q, made r q, none-kept 15 refl refl refl r q) refl
+  unfolding callingNumber callerIn ignored mark find rows
+  trunk-number r q trunk g = rw (g, q, made r q, none-asserted column (all-ignore 15 refl refl refl r q) 0 (h .fields)) refl
 
 -- ---- the lines of a response, where they are read
 

@@ -129,6 +129,11 @@ abbrev pub tailOf : UriParts → List ℕ
 tailOf (sip-parts u h d t) = t
 tailOf (tel-parts n t) = t
 
+-- its scheme is tel, and not sip
+abbrev pub isTelUri : UriParts → Bool
+isTelUri (sip-parts u h d t) = false
+isTelUri (tel-parts n t) = true
+
 -- "The sip user, or all of a tel URI after its colon"; of the called number "the sip user, or the tel text after its colon". Empty for a sip
 -- URI without a user
 abbrev pub personOf : UriParts → List ℕ
@@ -190,9 +195,26 @@ pub data Party : List ℕ → UriParts → List (List ℕ) → Type 0 where
 pub data GlobalNumber : List ℕ → Type 0 where
   global-number : {d : ℕ} {ds : List ℕ} → 49 ≤ d → d ≤ 57 → Each isDigit ds → Long 6 14 ds → GlobalNumber (43 ∷ d ∷ ds)
 
--- the value, and its number
-pub data Identity : List ℕ → List ℕ → Type 0 where
-  identity-of : {v : List ℕ} {u : UriParts} → Address v u → GlobalNumber (personOf u) → Identity v (personOf u)
+-- the text, and the parts of its URI
+pub data Identity : List ℕ → UriParts → Type 0 where
+  identity-of : {s : List ℕ} {u : UriParts} → Address s u → GlobalNumber (personOf u) → Identity s u
+
+-- ---- CR 6: "Allow one or two, in one field parted by a comma (spaces or tabs free around it) or in two fields: if two, one sip and one tel,
+-- each of the old form."
+
+-- in one field: the value, and the URIs of its identities
+pub data Identities : List ℕ → List UriParts → Type 0 where
+  one-identity : {s : List ℕ} {u : UriParts} → Identity s u → Identities s (u ∷ [])
+  two-identities :
+      {s c t : List ℕ} {u w : UriParts} → Identity s u → Separator 44 c → Identity t w → Identities (s ++ (c ++ t)) (u ∷ w ∷ [])
+
+-- "if two, one sip and one tel": of the identities of one field, or of all fields of a message, in their order. None are allowed too: an INVITE
+-- whose To has a tag may lack the field, and to an initial one without it reason 12 applies
+pub data Allowed : List UriParts → Type 0 where
+  none-asserted : Allowed []
+  one-asserted : (u : UriParts) → Allowed (u ∷ [])
+  sip-and-tel : (user host port tail number t : List ℕ) → Allowed (sip-parts user host port tail ∷ tel-parts number t ∷ [])
+  tel-and-sip : (number t user host port tail : List ℕ) → Allowed (tel-parts number t ∷ sip-parts user host port tail ∷ [])
 
 -- ---- "Privacy: one or more tokens parted by `;`, spaces or tabs free around it."; "Require: one or more tokens parted by commas, spaces
 -- or tabs free around them."
@@ -265,6 +287,6 @@ pub data Formed (method : List ℕ) : ℕ → List ℕ → Type 0 where
   cseq-value : {v : List ℕ} → CSeq method v → Formed method 6 v
   content-length-value : {v : List ℕ} → ContentLength v → Formed method 8 v
   require-value : {v : List ℕ} {ts : List (List ℕ)} → Tokens 44 v ts → Formed method 14 v
-  identity-value : {v n : List ℕ} → Identity v n → Formed method 15 v
+  identity-value : {v : List ℕ} {us : List UriParts} → Identities v us → Allowed us → Formed method 15 v
   privacy-value : {v : List ℕ} {ts : List (List ℕ)} → Tokens 59 v ts → Formed method 16 v
   any-value : {k : ℕ} → among readFields k ≡ false → (v : List ℕ) → Formed method k v

@@ -1,25 +1,27 @@
 -- The promises over the grammar, as statements; their proofs are in proofs/Grammar/. Each holds for every list of bytes (`FieldRead` and
 -- `CSeqMethodRead` for every method that is a token): a value is accepted exactly if the grammar derives it, what is found in it is the
--- derivation's part, and no two derivations of a value give it different parts. These are the tests that `Refusals.antt` asks of a
--- message: `otherScheme`, `isUri` and `isCalled` of its Request-URI (reasons 7, 8 and 15), `wellFormed` of the canonical value of each
--- kept field, with the method of the message (reason 10), `cseqMethod` of the first CSeq of a response (reason 6), `isTagged` of To
--- ("re"), `restricts` of a Privacy that is not ignored, `isLacking` of each required tag (reason 14). `NothingLifts` and `OthersChangeNothing`
--- compare two values of Privacy; `WithheldRead` is of every message that no reason but 1 and 16 refuses.
+-- derivation's part, and no two derivations of a value give it different parts (of an identity: another scheme or number). These are the
+-- tests that `Refusals.antt` asks of a message: `otherScheme`, `isUri` and `isCalled` of its Request-URI (reasons 7, 8 and 15), `wellFormed`
+-- of the canonical value of each kept field, with the method of the message, and `allowed` of the identities up to it (reason 10),
+-- `cseqMethod` of the first CSeq of a response (reason 6), `isTagged` of To ("re"), `restricts` of a Privacy that is not ignored, `isLacking`
+-- of each required tag (reason 14). `NothingLifts` and `OthersChangeNothing` compare two values of Privacy; `WithheldRead` is of every message
+-- that no reason but 1 and 16 refuses.
 use mathlib.Core.Path.{_≡_}
 use mathlib.Core.Bool.{true, false, cond}
-use mathlib.Core.List.{List, [], _∷_, _++_}
+use mathlib.Core.List.{List, [], _∷_, _++_, map}
 use mathlib.Core.Logic.{_↔_}
 use mathlib.Core.Option.{Option, some}
 use Prim.Native.Nat.{ℕ}
 use Rattle.sip.specs.declared.Column.{Column}
-use Rattle.sip.specs.Values.{cseqMethod, uri, person, isTo, isTagged, isFrom, tagOf, isIdentity, identity, tokens, listOr, isPrivacy, restricts, isRequire}
-use Rattle.sip.specs.Values.{requiredTags, isLacking, isCalled}
+use Rattle.sip.specs.Values.{cseqMethod, uri, person, isTo, isTagged, isFrom, tagOf, schemes, numbersIn, allowed, isAsserted, tokens}
+use Rattle.sip.specs.Values.{listOr, isPrivacy}
+use Rattle.sip.specs.Values.{restricts, isRequire, requiredTags, isLacking, isCalled}
 use Rattle.sip.specs.Lines.{RequestLine, StatusLine, Start, request, Field, Header, canonical}
 use Rattle.sip.specs.Profile.{numberOf, ignored}
 use Rattle.sip.specs.Refusals.{lines, read, Entry, withheld, otherScheme, isUri, wellFormed, firstCSeqMethod, responseColumnOf}
 use Rattle.sip.specs.Refusals.{messageColumn, Passed, judgement, accepted}
-use Rattle.sip.specs.Grammar.{Token, Tokens, Restricting, HoldsAny, Among, OurOptionTag, CSeq, UriParts, Uri, personOf, Party, Identity}
-use Rattle.sip.specs.Grammar.{Called, OtherScheme, Formed}
+use Rattle.sip.specs.Grammar.{Token, Tokens, Restricting, HoldsAny, Among, OurOptionTag, CSeq, UriParts, Uri, isTelUri, personOf}
+use Rattle.sip.specs.Grammar.{Party, Identities, Allowed, Called, OtherScheme, Formed}
 
 -- ---- Request-URI
 
@@ -72,9 +74,22 @@ OneParty = (v : List ℕ) (u w : UriParts) (ts us : List (List ℕ)) → Party v
 
 -- ---- P-Asserted-Identity, Privacy, Require
 
--- a value is a good identity, with the number n, exactly if the grammar derives it with that number; so it has one number
-abbrev pub IdentityRead : Type 0
-IdentityRead = (v n : List ℕ) → ((isIdentity v ≡ true) × (identity v ≡ n)) ↔ Identity v n
+-- CR 6: a value is good for P-Asserted-Identity exactly if the grammar derives it with identities that are allowed
+abbrev pub AssertedRead : Type 0
+AssertedRead = (v : List ℕ) → (isAsserted v ≡ true) ↔ ((us : List UriParts) × Identities v us × Allowed us)
+
+-- what is found in a value is what the derivation has: the scheme and the number of each identity, in their order. So no two derivations of
+-- a value differ in these
+pub record FoundIn (v : List ℕ) (us : List UriParts) : Type 0 where
+  pub schemes-are : schemes v ≡ map isTelUri us
+  pub numbers-are : numbersIn v ≡ map personOf us
+
+abbrev pub IdentitiesFound : Type 0
+IdentitiesFound = (v : List ℕ) (us : List UriParts) → Identities v us → FoundIn v us
+
+-- identities are allowed by their schemes exactly if the grammar has them allowed
+abbrev pub AllowedRead : Type 0
+AllowedRead = (us : List UriParts) → (allowed (map isTelUri us) ≡ true) ↔ Allowed us
 
 -- a value is good for Privacy, with the tokens ts, exactly if the grammar derives it with these; so it has one list of tokens
 abbrev pub PrivacyRead : Type 0

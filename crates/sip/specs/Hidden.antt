@@ -1,4 +1,5 @@
--- CR 5, worked pairs: two callers who are screened alike, pairs that differ since a premise of CR 5 fails, and what stays outside of it.
+-- CR 5, worked pairs, with the identities that CR 6 allows: two callers who are screened alike, pairs that differ since a premise of CR 5
+-- fails, and what stays outside of it.
 use mathlib.Core.Path.{_≡_}
 use mathlib.Core.List.{List, [], _∷_, _++_}
 use Prim.Native.Nat.{ℕ, zero, suc}
@@ -106,17 +107,20 @@ shortSent from to others =
     ("INVITE sip:112@gw.example SIP/2.0" ∷ "Via: x" ∷ "Max-Forwards: 8" ∷ from ∷ to ∷ "Call-ID: 8" ∷ "CSeq: 1 INVITE" ∷ "Contact: x" ∷ "Allow: "
     ∷ others)
 
-abbrev anonymousFrom : String
+abbrev pub anonymousFrom : String
 anonymousFrom = "From: \"Anonymous\" <sip:anonymous@anonymous.invalid>;tag=x"
 
-abbrev plainTo : String
+abbrev pub plainTo : String
 plainTo = "To: <sip:112@gw.example>"
 
-abbrev taggedTo : String
+abbrev pub taggedTo : String
 taggedTo = "To: <sip:112@gw.example>;tag=d4"
 
-abbrev ann : List String
-ann = "From: \"Ann\" <sip:+33187654321@h>;tag=x" ∷ []
+abbrev pub annsFrom : String
+annsFrom = "From: \"Ann\" <sip:+33187654321@h>;tag=x"
+
+abbrev pub ann : List String
+ann = annsFrom ∷ []
 
 abbrev bob : List String
 bob = "From: Bob B. <tel:+4930123456>;q;TAG\t= x" ∷ []
@@ -126,6 +130,12 @@ annsIdentity = "P-Asserted-Identity: \"Ann\" <sip:+33187654321@h>" ∷ []
 
 abbrev bobsIdentity : List String
 bobsIdentity = "P-Asserted-Identity: tel:+4930123456" ∷ []
+
+-- both shorter calls with these P-Asserted-Identity fields go out so
+abbrev shortHidden : List String → List String → ℕ → List String → Pair
+shortHidden asserted asserted′ n others =
+    alike (shortCall ann plainTo asserted ("Privacy: id" ∷ [])) (shortCall bob plainTo asserted′ ("Privacy: id" ∷ [])) (blankBuffer 9216)
+    (sent n (shortSent anonymousFrom plainTo others) 9216)
 
 -- both shorter calls with these From fields, these identities and these fields after the others are refused so
 abbrev shortRefused : List String → List String → List String → List String → List String → ℕ → ℕ → ℕ → ℕ → Pair
@@ -189,6 +199,12 @@ pairs =
     ∷ alike (shortCall ("From: \"A\" <sip:a@b>;tag=x" ∷ []) taggedTo [] ("Privacy: id" ∷ []))
     (shortCall ("From:\r\n sip:c@d ;p=q;TAG = x" ∷ []) taggedTo [] ("Privacy: id" ∷ [])) (blankBuffer 9216)
     (sent 216 (shortSent anonymousFrom taggedTo ("Privacy: id" ∷ [])) 9216)
+    -- CR 6: two identities in one field against one; two fields in either order; other identities in two fields, with a field between
+    ∷ shortHidden ("P-Asserted-Identity: tel:+4930123456 , \"Doe, J\" <sip:+4930123456@h>" ∷ []) annsIdentity 209 ("Privacy: id" ∷ [])
+    ∷ shortHidden (annsIdentity ++ bobsIdentity) (bobsIdentity ++ annsIdentity) 209 ("Privacy: id" ∷ [])
+    ∷ shortHidden (annsIdentity ++ ("Supported: timer" ∷ bobsIdentity))
+    (bobsIdentity ++ ("Supported: timer" ∷ "P-Asserted-Identity:<sip:+1234567@i>" ∷ []))
+    227 ("Supported: timer" ∷ "Privacy: id" ∷ [])
     -- a body that is cut
     ∷ alike (shortCall ann plainTo annsIdentity ("Privacy: id" ∷ "l: 2" ∷ "c: a" ∷ []) ++ text "hello")
     (shortCall bob plainTo bobsIdentity ("Privacy: id" ∷ "l: 2" ∷ "c: a" ∷ []) ++ text "hello") (blankBuffer 9216)
@@ -200,15 +216,17 @@ pairs =
     ∷ shortRefused ann bob annsIdentity bobsIdentity (manyFields 87) 5 0 0 0
     ∷ bothRefused "INVITE http:x SIP/2.0" hops noBody 7 416 0 0
     ∷ bothRefused "INVITE sip:+33123456789@ SIP/2.0" hops noBody 8 400 0 0
-    -- two From, two P-Asserted-Identity, two Privacy in either order
+    -- two From, two Privacy in either order
     ∷ shortRefused (ann ++ ann) (bob ++ bob) annsIdentity bobsIdentity [] 9 400 3 0
-    ∷ shortRefused ann bob (annsIdentity ++ bobsIdentity) (bobsIdentity ++ annsIdentity) [] 9 400 15 0
     ∷ shortRefused ann bob annsIdentity bobsIdentity ("Privacy: none" ∷ []) 9 400 16 0
     ∷ shortRefused ann bob (annsIdentity ++ ("Privacy: none" ∷ [])) (bobsIdentity ++ ("Privacy: none" ∷ [])) [] 9 400 16 0
     -- another field malformed; the same malformed From or P-Asserted-Identity in both
     ∷ shortRefused ann bob annsIdentity bobsIdentity ("Require: ;" ∷ []) 10 400 14 0
     ∷ shortRefused ("From: x" ∷ []) ("From: x" ∷ []) annsIdentity bobsIdentity [] 10 400 3 0
     ∷ shortRefused ann bob ("P-Asserted-Identity: x" ∷ []) ("P-Asserted-Identity: x" ∷ []) [] 10 400 15 0
+    -- CR 6: the same two of one scheme in both; another field malformed between two identities, in another order in the second
+    ∷ shortRefused ann bob (annsIdentity ++ annsIdentity) (annsIdentity ++ annsIdentity) [] 10 400 15 0
+    ∷ shortRefused ann bob (annsIdentity ++ ("Require: ;" ∷ bobsIdentity)) (bobsIdentity ++ ("Require: ;" ∷ annsIdentity)) [] 10 400 14 0
     -- Content-Length too large, no From and no P-Asserted-Identity in both, Max-Forwards 0, a required tag that we lack, no called number
     ∷ bothRefused invite hops "l: 1" 11 400 0 0
     ∷ shortRefused [] [] annsIdentity bobsIdentity [] 12 400 3 1
@@ -232,10 +250,19 @@ pairs =
     -- "the same tag": the letter case of its value counts
     ∷ maskedBut ("From: \"Ann\" <sip:+33187654321@h>;tag=X" ∷ []) annsIdentity
     (sent 209 (shortSent "From: \"Anonymous\" <sip:anonymous@anonymous.invalid>;tag=X" plainTo ("Privacy: id" ∷ [])) 9216)
-    -- "well formed": in the second From is malformed, then P-Asserted-Identity is, then that is absent
+    -- "well formed": in the second From is malformed, then P-Asserted-Identity is
     ∷ maskedBut ("From: \"Ann\" <sip:+33187654321@>;tag=x" ∷ []) annsIdentity (untouched 10 400 3 0 9216)
     ∷ maskedBut ann ("P-Asserted-Identity: tel:+493012" ∷ []) (untouched 10 400 15 0 9216)
+    -- CR 6, "the identities allowed here in both messages": in the second two are of one scheme, in one field; and in two, each good by itself
+    ∷ maskedBut ann ("P-Asserted-Identity: <sip:+33187654321@h>, <sip:+4930123456@h>" ∷ []) (untouched 10 400 15 0 9216)
+    ∷ apart (shortCall ann plainTo (bobsIdentity ++ annsIdentity) ("Privacy: id" ∷ []))
+    (shortCall ann plainTo (annsIdentity ++ annsIdentity) ("Privacy: id" ∷ [])) 1 (blankBuffer 9216)
+    (sent 209 (shortSent anonymousFrom plainTo ("Privacy: id" ∷ [])) 9216) (untouched 10 400 15 0 9216)
+    -- CR 6, "their number .. equal": none in the second; and one field more, where the first has 96
     ∷ maskedBut ann [] (untouched 12 400 15 1 9216)
+    ∷ apart (shortCall ann plainTo annsIdentity ("Privacy: id" ∷ manyFields 86))
+    (shortCall ann plainTo (annsIdentity ++ bobsIdentity) ("Privacy: id" ∷ manyFields 86)) 1 (blankBuffer 9216)
+    (sent 209 (shortSent anonymousFrom plainTo ("Privacy: id" ∷ [])) 9216) (untouched 5 0 0 0 9216)
     -- "well-shaped fields": a lone LF, which the canonical value no longer shows
     ∷ maskedBut ("From: \"An\nn\" <sip:+33187654321@h>;tag=x" ∷ []) annsIdentity (untouched 4 0 0 0 9216)
     -- "Both messages keep to 8,192 bytes"

@@ -12,5 +12,7 @@ pub mod Responses
 pub mod Privacy
 pub mod Grammar
 pub mod GrammarPromises
+pub mod Asserted
 pub mod Callers
 pub mod Hidden
+pub mod IdentityCases

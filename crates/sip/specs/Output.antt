@@ -54,7 +54,7 @@ sentValue masked body e =
 unfoldable pub line : ℕ → List ℕ → List ℕ
 line n v = nameOf n ++ 58 ∷ 32 ∷ (v ++ crlf)
 
--- "the fields not ignored in message order"; "P-Asserted-Identity is dropped" where the caller is masked
+-- "the fields not ignored in message order"; "P-Asserted-Identity is dropped" where the caller is masked, CR 6: "all of them go"
 unfoldable pub fieldLines : Bool → ℕ → List Entry → List ℕ
 fieldLines masked body [] = []
 fieldLines masked body (e ∷ es) =

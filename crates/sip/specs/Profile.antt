@@ -59,7 +59,8 @@ row n name c i r a b k o success cancelled other again =
 -- the table: No, Field, compact form, INVITE, re, ACK, BYE, CANCEL, OPTIONS; of responses those to an INVITE "from 200 to 299", those to a
 -- CANCEL, all others; Repeats. Of responses CR 1 says: "Call-ID, CSeq, From, To and Via are mandatory, Content-Length supported; for
 -- CANCEL that is all .. For the other methods add Content-Type (B), Contact, Allow, Supported, Require, Record-Route, Reason and Accept
--- as supported; for INVITE, Contact is mandatory from 200 to 299. All other fields, Max-Forwards too, are ignored"
+-- as supported; for INVITE, Contact is mandatory from 200 to 299. All other fields, Max-Forwards too, are ignored". P-Asserted-Identity has
+-- "yes" under Repeats since CR 6: "Allow one or two, in one field .. or in two fields"; "reason 9 never names 15"
 unfoldable pub rows : List Row
 rows =
     row 1 "Via" (short "v") M M M M M M M M M yes
@@ -76,7 +77,7 @@ rows =
     ∷ row 12 "Allow" none M S I S I S S I S yes
     ∷ row 13 "Supported" (short "k") S S I S I S S I S yes
     ∷ row 14 "Require" none S S I S I S S I S yes
-    ∷ row 15 "P-Asserted-Identity" none M S I I I I I I I no
+    ∷ row 15 "P-Asserted-Identity" none M S I I I I I I I yes
     ∷ row 16 "Privacy" none S S I I I I I I I no
     ∷ row 17 "Accept" none S S I I I S S I S yes
     ∷ row 18 "Record-Route" none S S I I I I S I S yes

@@ -1,20 +1,26 @@
 -- The large promises over the definitions, as statements; their proofs are in proofs/.
 use mathlib.Core.Path.{_≡_}
-use mathlib.Core.Bool.{Bool, true, false}
-use mathlib.Core.List.{List, _∷_}
-use mathlib.Core.Option.{some}
+use mathlib.Core.Bool.{Bool, true, false, cond}
+use mathlib.Core.List.{List, [], _∷_, _++_}
+use mathlib.Core.Option.{Option, none, some}
 use Prim.Native.Nat.{ℕ, _+_, _<_}
+use lib.Dec.{eqb}
 use lib.ListN.{length, take}
 use Rattle.octets.specs.Classes.{text}
+use Rattle.sip.specs.declared.Column.{Column}
 use Rattle.sip.specs.declared.Column.the-variants.{Invite, Reinvite}
-use Rattle.sip.specs.Lines.{RequestLine, StatusLine, requestLine, statusLine, Start, request, response, start, startSize, Field, Header, canonical}
+use Rattle.sip.specs.Lines.{RequestLine, StatusLine, requestLine, statusLine, Start, request, response, start, startSize, Field, Header}
+use Rattle.sip.specs.Lines.{canonical}
 use Rattle.sip.specs.Profile.{numberOf, ignored}
-use Rattle.sip.specs.Refusals.{Answer, lines, read, headerLines, withheld, Passed, messageColumn, keptOf, judgement, accepted}
-use Rattle.sip.specs.Values.{isFrom, tagOf, isIdentity, isGlobal}
+use Rattle.sip.specs.Refusals.{Answer, lines, read, headerLines, Entry, kept, withheld, firstMalformed, Passed, messageColumn, keptOf}
+use Rattle.sip.specs.Refusals.{judgement, accepted}
+use Rattle.sip.specs.Values.{isFrom, tagOf, isGlobal}
 use Rattle.sip.specs.Output.{output}
-use Rattle.sip.specs.Screen.{screened}
-use Rattle.sip.specs.Readings.{callingNumber}
+use Rattle.sip.specs.Screen.{delivered, screened}
+use Rattle.sip.specs.Readings.{callingNumber, callingPart}
 use Rattle.sip.specs.Change.{Changed}
+use Rattle.sip.specs.Grammar.{UriParts, personOf}
+use Rattle.sip.specs.Asserted.{Asserting, IdentitiesAllowed, Calling}
 use Rattle.sip.specs.Callers.{withValue, OtherCaller, TwoCallers}
 
 -- CR 1: a start line is a request line or a status line (RFC 3261, start-line), and no text is both
@@ -72,6 +78,74 @@ OnlyWithheldMasked =
 abbrev pub SameIgnored : Type 0
 SameIgnored = (n : ℕ) → ignored (some Reinvite) n ≡ ignored (some Invite) n
 
+-- the fields of that number, and the others
+unfoldable pub only : ℕ → List Entry → List Entry
+only n [] = []
+only n (e ∷ es) = let others = only n es in cond (eqb (e .number) n) (e ∷ others) others
+
+unfoldable pub without : ℕ → List Entry → List Entry
+without n [] = []
+without n (e ∷ es) = let others = without n es in cond (eqb (e .number) n) others (e ∷ others)
+
+-- CR 6: a message that no reason but 1 and 16 refuses, and that does not ignore P-Asserted-Identity, has allowed identities: none, one, or one
+-- sip and one tel. (That an initial INVITE has one at all is reason 12's.)
+abbrev pub OnlyAllowed : Type 0
+OnlyAllowed =
+    (m : List ℕ) (l : Start) (h : Header) (r : Passed) → lines m ≡ read l h → judgement m ≡ accepted r
+    → ignored (messageColumn l (h .fields)) 15 ≡ false → IdentitiesAllowed (h .fields)
+
+-- and a message that has allowed identities, or ignores P-Asserted-Identity, is never refused with 10 and detail 15
+pub record NotForThem (m : List ℕ) : Type 0 where
+  pub never-10-15 :
+      (side : ℕ) (buffer : List ℕ) → screened m side buffer .answer .reason ≡ 10 → screened m side buffer .answer .detail ≡ 15 → ⊥
+
+abbrev pub AllowedPass : Type 0
+AllowedPass = (m : List ℕ) (l : Start) (h : Header) → lines m ≡ read l h → IdentitiesAllowed (h .fields) → NotForThem m
+
+abbrev pub IgnoredPass : Type 0
+IgnoredPass = (m : List ℕ) (l : Start) (h : Header) → lines m ≡ read l h → ignored (messageColumn l (h .fields)) 15 ≡ true → NotForThem m
+
+-- CR 6: "a third identity, or two of one scheme, is 10 with detail 15 at the field that brings it": where no field before it is malformed, a
+-- P-Asserted-Identity up to which the identities are not allowed is the first malformed field, whatever follows
+abbrev pub FieldThatBringsIt : Type 0
+FieldThatBringsIt =
+    (method : List ℕ) (c : Option Column) (before after : List Field) (f : Field) → ignored c 15 ≡ false → numberOf (f .name) ≡ 15
+    → firstMalformed method [] (kept c before) ≡ 0 → (IdentitiesAllowed (before ++ f ∷ []) → ⊥)
+    → firstMalformed method [] (kept c (before ++ f ∷ after)) ≡ 15
+
+-- CR 6: "reason 9 never names 15"
+abbrev pub NeverRepeated : Type 0
+NeverRepeated =
+    (m : List ℕ) (side : ℕ) (buffer : List ℕ) → screened m side buffer .answer .reason ≡ 9 → screened m side buffer .answer .detail ≡ 15 → ⊥
+
+-- CR 6: "When withheld on side 1, all of them go": what goes out is what goes out of a message with the same other fields and no
+-- P-Asserted-Identity
+abbrev pub AllGo : Type 0
+AllGo =
+    (m : List ℕ) (r : Passed) (buffer : List ℕ) → judgement m ≡ accepted r → withheld (r .fields) ≡ true
+    → screened m 1 buffer ≡ delivered r (output true (record { line = r .line; fields = without 15 (r .fields); body = r .body })) buffer
+
+-- CR 6: of a message that no reason but 1 and 16 refuses and that does not ignore P-Asserted-Identity, with a good trunk number, the calling
+-- number is that of the sip identity, or of the only one; where it asserts none it is the trunk number
+pub record CallingRead (m trunk : List ℕ) (us : List UriParts) : Type 0 where
+  pub from-identity : (u : UriParts) → Calling us u → callingNumber m trunk ≡ personOf u
+  pub from-trunk : us ≡ [] → callingNumber m trunk ≡ trunk
+
+abbrev pub SipCalls : Type 0
+SipCalls =
+    (m trunk : List ℕ) (l : Start) (h : Header) (r : Passed) (us : List UriParts) → lines m ≡ read l h → judgement m ≡ accepted r
+    → ignored (messageColumn l (h .fields)) 15 ≡ false → isGlobal trunk ≡ true → Asserting (h .fields) us → CallingRead m trunk us
+
+-- where P-Asserted-Identity is ignored it is the trunk number
+abbrev pub IgnoredCalls : Type 0
+IgnoredCalls =
+    (m trunk : List ℕ) (l : Start) (h : Header) (r : Passed) → lines m ≡ read l h → judgement m ≡ accepted r
+    → ignored (messageColumn l (h .fields)) 15 ≡ true → isGlobal trunk ≡ true → callingNumber m trunk ≡ trunk
+
+-- "hands back a part of one of them": the part of the message, or of the trunk number, that is handed back is the calling number
+abbrev pub CallingPart : Type 0
+CallingPart = (m trunk : List ℕ) → callingPart m trunk ≡ callingNumber m trunk
+
 -- CR 5, "The digits cannot show": of two callers, on side 1 and with the same buffer, "The whole answer and the buffer afterwards are then the
 -- same." The answer is its five numbers; refusals are answers too
 abbrev pub DigitsHidden : Type 0
@@ -81,23 +155,22 @@ DigitsHidden = (m m′ buffer : List ℕ) → TwoCallers m m′ → screened m�
 abbrev pub EitherWay : Type 0
 EitherWay = (m m′ : List ℕ) → TwoCallers m m′ → TwoCallers m′ m
 
--- No value is left out of CR 5: any two values of From that `screened` takes for well formed, with one tag, and any two such values of
--- P-Asserted-Identity may stand in two callers
-pub record AnyValue : Type 0 where
+-- No value is left out of CR 5: any two values of From that `screened` takes for well formed, with one tag, may stand in two callers; and the
+-- identities of a message are allowed where `screened` takes none of its P-Asserted-Identity fields for malformed
+pub record AnyValue : Type 1 where
   pub of-from :
-      (f : Field) (w : List ℕ) (fs gs : List Field) → numberOf (f .name) ≡ 3 → isFrom (canonical (f .value)) ≡ true
-      → isFrom (canonical w) ≡ true → tagOf (canonical w) ≡ tagOf (canonical (f .value)) → OtherCaller fs gs
-      → OtherCaller (f ∷ fs) (withValue f w ∷ gs)
-  pub of-identity :
-      (f : Field) (w : List ℕ) (fs gs : List Field) → numberOf (f .name) ≡ 15 → isIdentity (canonical (f .value)) ≡ true
-      → isIdentity (canonical w) ≡ true → OtherCaller fs gs → OtherCaller (f ∷ fs) (withValue f w ∷ gs)
+      (BothAllowed : Type 0) (f : Field) (w : List ℕ) (fs gs : List Field) → numberOf (f .name) ≡ 3 → isFrom (canonical (f .value)) ≡ true
+      → isFrom (canonical w) ≡ true → tagOf (canonical w) ≡ tagOf (canonical (f .value)) → OtherCaller BothAllowed fs gs
+      → OtherCaller BothAllowed (f ∷ fs) (withValue f w ∷ gs)
+  pub of-identities : (method : List ℕ) (fs : List Field) → firstMalformed method [] (only 15 (kept none fs)) ≡ 0 → IdentitiesAllowed fs
 
 -- no pair that reads: two messages with the same bytes before their fields and after them are two callers where the fields are so related,
 -- the method is INVITE, and the first is withheld as `screened` takes it
 abbrev pub EveryPair : Type 0
 EveryPair =
     (m m′ : List ℕ) (l : RequestLine) (h h′ : Header) → lines m ≡ read (request l) h → lines m′ ≡ read (request l) h′
-    → take (startSize (request l)) m ≡ take (startSize (request l)) m′ → h .rest ≡ h′ .rest → OtherCaller (h .fields) (h′ .fields)
+    → take (startSize (request l)) m ≡ take (startSize (request l)) m′ → h .rest ≡ h′ .rest
+    → OtherCaller (IdentitiesAllowed (h .fields) × IdentitiesAllowed (h′ .fields)) (h .fields) (h′ .fields)
     → l .method ≡ text "INVITE" → withheld (keptOf (request l) (h .fields)) ≡ true → TwoCallers m m′
 
 -- and nothing else is in it: both messages read as the lines that it speaks of, or both have more than 96 fields (reason 5)

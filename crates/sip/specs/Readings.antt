@@ -1,6 +1,6 @@
 -- Document 01, "Fields and the calling number", for requests and (CR 1) responses; and CR 3, a field by its name.
 use mathlib.Core.Bool.{Bool, true, false, cond, _||_}
-use mathlib.Core.List.{List, [], _∷_}
+use mathlib.Core.List.{List, [], _∷_, _++_, map}
 use mathlib.Core.Option.{Option, none, some}
 use Prim.Native.Nat.{ℕ, zero, suc, _+_}
 use lib.Dec.{eqb}
@@ -9,10 +9,12 @@ use Rattle.octets.specs.Classes.{isGap}
 use Rattle.octets.specs.Scans.{run, sameText}
 use Rattle.sip.specs.declared.Span.{Span}
 use Rattle.sip.specs.declared.CallingAt.{CallingAt}
+use Rattle.sip.specs.declared.IdentityAt.{IdentityAt}
+use Rattle.sip.specs.declared.CallerAt.{CallerAt}
 use Rattle.sip.specs.Lines.{startSize, Field, bytes, trim, unfoldedAt}
 use Rattle.sip.specs.Profile.{numberOf}
-use Rattle.sip.specs.Values.{isEmpty, address, personSize, identity, isGlobal}
-use Rattle.sip.specs.Refusals.{Lines, unread, read, lines, valueOf, Judgement, refused, accepted, judgement}
+use Rattle.sip.specs.Values.{isEmpty, identities, numberIn, isGlobal}
+use Rattle.sip.specs.Refusals.{Lines, unread, read, lines, Entry, Judgement, refused, accepted, judgement}
 
 abbrev pub noSpan : Span
 noSpan = record { start = 0; len = 0 }
@@ -64,13 +66,44 @@ reading m n k = part (readingAt m n k) m
 
 -- ---- the calling number
 
-abbrev identityOr : List ℕ → Option (List ℕ) → List ℕ
-identityOr trunk none = trunk
-identityOr trunk (some v) = identity v
+-- an asserted identity of a message: which of the P-Asserted-Identity fields it stands in, from 1, that field's canonical value, and where
+-- it stands there
+pub record Asserted : Type 0 where
+  pub field : ℕ
+  pub value : List ℕ
+  pub identity : IdentityAt
+
+abbrev pub assertedBy : ℕ → List ℕ → List Asserted
+assertedBy k v = map (λ (i : IdentityAt). record { field = k; value = v; identity = i }) (identities v)
+
+-- those of all fields, in order; k P-Asserted-Identity fields are before these
+unfoldable pub asserted : ℕ → List Entry → List Asserted
+asserted k [] = []
+asserted k (e ∷ es) =
+    let here = assertedBy (suc k) (e .value) ++ asserted (suc k) es in
+    let others = asserted k es in
+    cond (eqb (e .number) 15) here others
+
+-- the first that is a sip URI, or `a` where none is
+unfoldable pub sipOr : Asserted → List Asserted → Asserted
+sipOr a [] = a
+sipOr a (b ∷ others) = let later = sipOr a others in cond (b .identity .tel) later b
+
+abbrev pub preferred : List Asserted → Option Asserted
+preferred [] = none
+preferred (a ∷ others) = some (sipOr a (a ∷ others))
+
+-- CR 6: "The calling number comes from the sip one (document 002, Table 5, note 1) in either order"; where there is one alone, from that
+unfoldable pub callerIn : List Entry → Option Asserted
+callerIn es = preferred (asserted 0 es)
+
+abbrev pub numberOr : List ℕ → Option Asserted → List ℕ
+numberOr trunk none = trunk
+numberOr trunk (some a) = numberIn (a .value) (a .identity)
 
 abbrev callerOf : List ℕ → Judgement → List ℕ
 callerOf trunk (refused a) = []
-callerOf trunk (accepted r) = identityOr trunk (valueOf 15 (r .fields))
+callerOf trunk (accepted r) = numberOr trunk (callerIn (r .fields))
 
 -- "the P-Asserted-Identity digits with their `+` where the message has that field not ignored, else the trunk number .. It is empty
 -- instead exactly if the trunk number lacks the P-Asserted-Identity form or the message has a reason of 2 to 15 on side 0."
@@ -83,19 +116,22 @@ callingNumber m trunk = cond (isGlobal trunk) (callerOf trunk (judgement m)) []
 abbrev pub noCalling : CallingAt
 noCalling = record { «from_trunk» = false; start = 0; len = 0 }
 
--- where the number of an identity in its canonical form v stands: p is the part of the message that the value is
-unfoldable pub callerAt : List ℕ → Span → List ℕ → CallingAt
-callerAt m p v =
-    let a = address v in
-    record { «from_trunk» = false; start = p .start + unfoldedAt (a .at + 4) 0 (part p m); len = personSize (a .uri) }
+-- where it stands in the fields' canonical values; field 0 where there is none
+abbrev pub callerAt : Option Asserted → CallerAt
+callerAt none = record { field = 0; start = 0; len = 0 }
+callerAt (some a) = record { field = a .field; start = a .identity .start; len = a .identity .len }
 
-abbrev callerIn : List ℕ → List ℕ → Option (List ℕ) → CallingAt
-callerIn m trunk none = record { «from_trunk» = true; start = 0; len = length trunk }
-callerIn m trunk (some v) = callerAt m (readingAt m 15 1) v
+-- where it stands in the message: p is the part of the message that the field's value is
+unfoldable pub placedIn : List ℕ → Span → CallerAt → CallingAt
+placedIn m p c = record { «from_trunk» = false; start = p .start + unfoldedAt (c .start) 0 (part p m); len = c .len }
+
+abbrev pub callerOr : List ℕ → List ℕ → CallerAt → CallingAt
+callerOr m trunk c =
+    cond (eqb (c .field) 0) (record { «from_trunk» = true; start = 0; len = length trunk }) (placedIn m (readingAt m 15 (c .field)) c)
 
 abbrev callingIn : List ℕ → List ℕ → Judgement → CallingAt
 callingIn m trunk (refused a) = noCalling
-callingIn m trunk (accepted r) = callerIn m trunk (valueOf 15 (r .fields))
+callingIn m trunk (accepted r) = callerOr m trunk (callerAt (callerIn (r .fields)))
 
 unfoldable pub callingAt : List ℕ → List ℕ → CallingAt
 callingAt m trunk = cond (isGlobal trunk) (callingIn m trunk (judgement m)) noCalling

@@ -11,8 +11,9 @@ use Rattle.sip.specs.declared.Column.{Column}
 use Rattle.sip.specs.declared.Column.the-variants.{Invite, Reinvite, Ack, Bye, Cancel, Options, InviteSuccess, CancelResponse, OtherResponse}
 use Rattle.sip.specs.Lines.{RequestLine, StatusLine, Start, request, response, start, startSize, Field, Header, header, canonical}
 use Rattle.sip.specs.Profile.{numberOf, once, columnOf, responseColumn, ignored, mandatory, numbers}
-use Rattle.sip.specs.Values.{isEmpty, isMaxForwards, isContentLength, isCSeq, cseqMethod, isCallId, uri, isFrom, isTo, isTagged, isIdentity}
-use Rattle.sip.specs.Values.{isPrivacy, restricts, isRequire, requiredTags, firstPlace, isLacking, person, isCalled}
+use Rattle.sip.specs.Values.{isEmpty, isMaxForwards, isContentLength, isCSeq, cseqMethod, isCallId, uri, isFrom, isTo, isTagged}
+use Rattle.sip.specs.Values.{isAsserted, schemes, allowed, isPrivacy, restricts, isRequire, requiredTags, firstPlace, isLacking, person}
+use Rattle.sip.specs.Values.{isCalled}
 
 -- "The answer has reason, reply, detail, missing count and length; each is 0 where not said here."
 pub record Answer : Type 0 where
@@ -127,7 +128,7 @@ firstRepeat earlier (e ∷ es) =
 unfoldable pub reason9 : List Entry → Option Answer
 reason9 es = let n = firstRepeat [] es in when (not (eqb n 0)) (refusal 9 400 n 0)
 
--- the value of that field is well formed: document 01, "Values that are read"
+-- the value of that field is well formed: document 01, "Values that are read", and CR 6 of P-Asserted-Identity
 unfoldable pub wellFormed : List ℕ → ℕ → List ℕ → Bool
 wellFormed method n v =
     cond (eqb n 1 || (eqb n 7 || (eqb n 9 || (eqb n 10 || (eqb n 11 || eqb n 18))))) (not (isEmpty v))
@@ -138,18 +139,24 @@ wellFormed method n v =
     (cond (eqb n 6) (isCSeq method v)
     (cond (eqb n 8) (isContentLength v)
     (cond (eqb n 14) (isRequire v)
-    (cond (eqb n 15) (isIdentity v)
+    (cond (eqb n 15) (isAsserted v)
     (cond (eqb n 16) (isPrivacy v) true)))))))))
 
--- "of the first malformed one". 0: there is none
-unfoldable pub firstMalformed : List ℕ → List Entry → ℕ
-firstMalformed method [] = 0
-firstMalformed method (e ∷ es) =
-    let later = firstMalformed method es in
-    cond (wellFormed method (e .number) (e .value)) later (e .number)
+-- the identities that a field brings, by whether each is a tel URI: those of a P-Asserted-Identity; other fields bring none
+unfoldable pub brought : Entry → List Bool
+brought e = cond (eqb (e .number) 15) (schemes (e .value)) []
+
+-- "of the first malformed one". 0: there is none. CR 6: "a third identity, or two of one scheme, is 10 with detail 15 at the field that brings
+-- it"; `earlier` are the identities that the fields before have brought
+unfoldable pub firstMalformed : List ℕ → List Bool → List Entry → ℕ
+firstMalformed method earlier [] = 0
+firstMalformed method earlier (e ∷ es) =
+    let so-far = earlier ++ brought e in
+    let later = firstMalformed method so-far es in
+    cond (wellFormed method (e .number) (e .value) && allowed so-far) later (e .number)
 
 unfoldable pub reason10 : List ℕ → List Entry → Option Answer
-reason10 method es = let n = firstMalformed method es in when (not (eqb n 0)) (refusal 10 400 n 0)
+reason10 method es = let n = firstMalformed method [] es in when (not (eqb n 0)) (refusal 10 400 n 0)
 
 -- "Content-Length exceeds the bytes there"
 unfoldable pub exceeds : List Entry → List ℕ → Bool

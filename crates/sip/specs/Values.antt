@@ -1,7 +1,7 @@
 -- Document 01, "Values that are read". "These speak of canonical values." A reader looks at the front of a text and says how many bytes
 -- it read there, its size, and what it found; the size is 0 where what it looks for does not stand there.
 use mathlib.Core.Bool.{Bool, true, false, not, cond, _&&_, _||_}
-use mathlib.Core.List.{List, [], _∷_}
+use mathlib.Core.List.{List, [], _∷_, map}
 use mathlib.Core.Option.{Option, none, some}
 use Prim.Native.Nat.{ℕ, zero, suc, _+_, _-_}
 use lib.Dec.{eqb}
@@ -13,6 +13,7 @@ use Rattle.sip.specs.declared.AddressAt.{AddressAt}
 use Rattle.sip.specs.declared.ParamAt.{ParamAt}
 use Rattle.sip.specs.declared.ParamsAt.{ParamsAt}
 use Rattle.sip.specs.declared.PartyAt.{PartyAt}
+use Rattle.sip.specs.declared.IdentityAt.{IdentityAt}
 
 -- ---- "Not empty"
 
@@ -139,7 +140,7 @@ address s =
     cond (starts 60 (drop d s)) a (cond (eqb (u .size) 0) noAddress (record { size = u .tail; at = 0; uri = bare u }))
 
 -- ---- "Then any number of parameters: `;`, token, optionally `=` and a token or quoted string, with spaces or tabs free around `;` and
--- `=`. `tag` (any case) stands at most once, its value a token of 1 to 64 bytes."
+-- `=`. .. `tag` (any case) stands at most once, its value a token of 1 to 64 bytes."
 
 abbrev pub noParam : ParamAt
 noParam = record { size = 0; tag = false; value = 0; len = 0 }
@@ -242,12 +243,61 @@ personSize u = cond (u .tel) (u .size - 4) (u .user)
 unfoldable pub person : UriAt → List ℕ → List ℕ
 person u s = take (personSize u) (drop 4 s)
 
--- the part of an identity that is to be a number
-unfoldable pub identity : List ℕ → List ℕ
-identity v = let a = address v in person (a .uri) (drop (a .at) v)
+abbrev pub noIdentity : IdentityAt
+noIdentity = record { size = 0; tel = false; start = 0; len = 0 }
 
-unfoldable pub isIdentity : List ℕ → Bool
-isIdentity v = let a = address v in not (eqb (a .size) 0) && (eqb (a .size) (length v) && isGlobal (identity v))
+-- an address with such a number in it, and where the number stands
+unfoldable pub identity : List ℕ → IdentityAt
+identity s =
+    let a = address s in
+    cond (not (eqb (a .size) 0) && isGlobal (person (a .uri) (drop (a .at) s)))
+    (record { size = a .size; tel = a .uri .tel; start = a .at + 4; len = personSize (a .uri) })
+    noIdentity
+
+-- ---- CR 6: "Allow one or two, in one field parted by a comma (spaces or tabs free around it) or in two fields: if two, one sip and one tel,
+-- each of the old form."
+
+-- an identity that stands after n bytes of the value
+abbrev pub after : ℕ → IdentityAt → IdentityAt
+after n i = record { size = i .size; tel = i .tel; start = n + i .start; len = i .len }
+
+-- the identities that make up a value: an identity, or an identity, a comma and an identity. None where it is not made so
+unfoldable pub identities : List ℕ → List IdentityAt
+identities v =
+    let a = identity v in
+    let c = sign 44 (drop (a .size) v) in
+    let n = a .size + c in
+    let b = identity (drop n v) in
+    cond (eqb (a .size) 0) []
+    (cond (eqb (a .size) (length v)) (a ∷ [])
+    (cond (eqb c 0 || eqb (b .size) 0) []
+    (cond (eqb (n + b .size) (length v)) (a ∷ after n b ∷ []) [])))
+
+-- whether each of them is a tel URI; the others are sip URIs
+unfoldable pub schemes : List ℕ → List Bool
+schemes v = map (λ (i : IdentityAt). i .tel) (identities v)
+
+-- the number of an identity of the value v, and those of all
+abbrev pub numberIn : List ℕ → IdentityAt → List ℕ
+numberIn v i = take (i .len) (drop (i .start) v)
+
+unfoldable pub numbersIn : List ℕ → List (List ℕ)
+numbersIn v = map (numberIn v) (identities v)
+
+-- "one or two .. if two, one sip and one tel", by whether each is a tel URI; none is allowed too, where no field stands
+unfoldable pub allowed : List Bool → Bool
+allowed [] = true
+allowed (t ∷ []) = true
+allowed (t ∷ u ∷ []) = cond t (not u) u
+allowed (t ∷ u ∷ w ∷ ts) = false
+
+abbrev isNone : List Bool → Bool
+isNone [] = true
+isNone (t ∷ ts) = false
+
+-- a P-Asserted-Identity by itself: it has identities, and they are allowed
+unfoldable pub isAsserted : List ℕ → Bool
+isAsserted v = not (isNone (schemes v)) && allowed (schemes v)
 
 -- ---- "one or more tokens parted by" a byte, "spaces or tabs free around it"
 
@@ -310,7 +360,7 @@ requiredTags v = listOr (tokens 44 0 v)
 unfoldable pub isLacking : List ℕ → Bool
 isLacking t = not (sameText (text "100rel") t || sameText (text "timer") t)
 
--- ---- "Called number: the sip user, or the tel text after its colon, is a number alone or a number, `;` and any bytes or none. A number
+-- ---- "Called number .. : the sip user, or the tel text after its colon, is a number alone or a number, `;` and any bytes or none. A number
 -- has the form of P-Asserted-Identity's, or is 2 to 6 digits."
 
 unfoldable pub isShort : List ℕ → Bool

@@ -52,6 +52,22 @@ pub struct PartyAt {
     pub len: usize,
 }
 
+// An asserted identity in a text: its size, whether it is a tel URI, and where its number stands. Size 0: no identity stands there.
+pub struct IdentityAt {
+    pub size: usize,
+    pub tel: bool,
+    pub start: usize,
+    pub len: usize,
+}
+
+// Where the number of an asserted identity stands: in which of the P-Asserted-Identity fields, from 1, and where in the canonical value of
+// that field. Field 0: there is none.
+pub struct CallerAt {
+    pub field: usize,
+    pub start: usize,
+    pub len: usize,
+}
+
 // A part of a text. An empty part starts at 0.
 pub struct Span {
     pub start: usize,

@@ -1,23 +1,25 @@
-// Addresses, and the values that hold one: From, To and P-Asserted-Identity.
+// Addresses, and the values that hold them: From, To and P-Asserted-Identity.
+use super::AssertedAt;
 use super::param::params;
 use super::person::global;
 use super::person::person_size;
 use super::scan::blanks;
 use super::scan::names;
 use super::scan::past;
+use super::scan::sign;
 use super::scan::tokens;
 use super::uri::NO_URI;
 use super::uri::uri;
 use sip::AddressAt;
+use sip::IdentityAt;
 use sip::PartyAt;
-use sip::Span;
 use sip::UriAt;
 ghost use mathlib.Core.Path.{_≡_};
 ghost use Prim.Native.Nat.{_+_, _*_, _-_, _≤_, _<_};
 ghost use lib.ListN.{length};
 ghost use Rattle.octets.specs.Classes.{classTable};
-ghost use Rattle.sip.specs.Values.{display, bracketed, address, party};
-ghost use Rattle.values.specs.Answers.{identityAt};
+ghost use Rattle.sip.specs.Values.{display, bracketed, address, party, identity, after};
+ghost use Rattle.values.specs.Answers.{alone, paired, assertedAt};
 
 const NO_ADDRESS: AddressAt = AddressAt {
     size: 0,
@@ -31,7 +33,18 @@ const NO_PARTY: PartyAt = PartyAt {
     len: 0,
 };
 
-const NO_SPAN: Span = Span { start: 0, len: 0 };
+const NO_IDENTITY: IdentityAt = IdentityAt {
+    size: 0,
+    tel: false,
+    start: 0,
+    len: 0,
+};
+
+const NO_ASSERTED: AssertedAt = AssertedAt {
+    schemes: 0,
+    start: 0,
+    len: 0,
+};
 
 // A display name with the blanks after it. 0 where there is none.
 fn display(table: &[u8; 256], s: &[u8]) -> usize
@@ -120,23 +133,99 @@ pub(crate) fn party(table: &[u8; 256], v: &[u8]) -> PartyAt
     }
 }
 
-// P-Asserted-Identity: nothing may stand after the address, and the number stands behind the four bytes of the scheme.
-pub(crate) fn identity(table: &[u8; 256], v: &[u8]) -> Span
+// An identity at the front of a text: an address whose user, or tel URI, is a number. The number stands behind the four bytes of the scheme.
+fn identity(table: &[u8; 256], s: &[u8]) -> IdentityAt
     requires { ⌜ now table ≡ classTable ⌝ }
-    ensures { λ r. ⌜ (r ≡ identityAt (now (v .entry))) × (r .start + r .len ≤ length (now (v .entry))) ⌝ }
+    ensures { λ r. ⌜ (r ≡ identity (now (s .entry))) × (r .size ≤ length (now (s .entry))) × (r .start + r .len ≤ r .size) ⌝ }
 {
-    let a = address(table, v);
-    if a.size < 1 {
-        return NO_SPAN;
+    let a = address(table, s);
+    let size = a.size;
+    if size < 1 {
+        return NO_IDENTITY;
     }
     let start = a.at + 4;
     let u = a.uri;
     let len = person_size(u);
-    if !global(table, octets::part(v, start, len)) {
-        return NO_SPAN;
+    if !global(table, octets::part(s, start, len)) {
+        return NO_IDENTITY;
     }
-    if a.size == v.len() {
-        return Span { start, len };
+    IdentityAt {
+        size,
+        tel: u.tel,
+        start,
+        len,
     }
-    NO_SPAN
+}
+
+// An identity that is alone in its value.
+fn alone(i: IdentityAt) -> AssertedAt
+    ensures { λ r. ⌜ (r ≡ alone i) × (r .start ≡ i .start) × (r .len ≡ i .len) ⌝ }
+{
+    if i.tel {
+        return AssertedAt {
+            schemes: 2,
+            start: i.start,
+            len: i.len,
+        };
+    }
+    AssertedAt {
+        schemes: 1,
+        start: i.start,
+        len: i.len,
+    }
+}
+
+// Two identities that fill a value, the second after n bytes of it: one has to be a sip URI and one a tel URI.
+fn pair(i: IdentityAt, n: usize, j: IdentityAt) -> AssertedAt
+    requires { ⌜ (i .start + i .len ≤ n) × (n + j .start + j .len ≤ 18446744073709551615) ⌝ }
+    ensures { λ r. ⌜ (r ≡ paired i (after n j)) × (r .start + r .len ≤ n + j .start + j .len) ⌝ }
+{
+    if i.tel {
+        if j.tel {
+            return NO_ASSERTED;
+        }
+        let start = n + j.start;
+        return AssertedAt {
+            schemes: 3,
+            start,
+            len: j.len,
+        };
+    }
+    if !j.tel {
+        return NO_ASSERTED;
+    }
+    AssertedAt {
+        schemes: 3,
+        start: i.start,
+        len: i.len,
+    }
+}
+
+// P-Asserted-Identity: an identity, or two that a comma parts, and nothing after them.
+pub(crate) fn asserted(table: &[u8; 256], v: &[u8]) -> AssertedAt
+    requires { ⌜ now table ≡ classTable ⌝ }
+    ensures { λ r. ⌜ (r ≡ assertedAt (now (v .entry))) × (r .start + r .len ≤ length (now (v .entry))) ⌝ }
+{
+    let i = identity(table, v);
+    let size = i.size;
+    if size < 1 {
+        return NO_ASSERTED;
+    }
+    if size == v.len() {
+        return alone(i);
+    }
+    let comma = sign(b',', past(v, size));
+    if comma < 1 {
+        return NO_ASSERTED;
+    }
+    let next = size + comma;
+    let j = identity(table, past(v, next));
+    if j.size < 1 {
+        return NO_ASSERTED;
+    }
+    let last = next + j.size;
+    if last != v.len() {
+        return NO_ASSERTED;
+    }
+    pair(i, next, j)
 }

@@ -11,7 +11,7 @@ ghost use mathlib.Core.Path.{_≡_};
 ghost use Prim.Native.Nat.{_+_, _≤_};
 ghost use lib.ListN.{length};
 ghost use Rattle.sip.specs.Values.{isCSeq, isCallId, uri, isGlobal, party};
-ghost use Rattle.values.specs.Answers.{wholeNumber, requestUri, privacyAt, requireAt, identityAt};
+ghost use Rattle.values.specs.Answers.{wholeNumber, requestUri, privacyAt, requireAt, assertedAt};
 
 // The Request-URI: its scheme is a token but neither sip nor tel; it is a URI from end to end; what it calls is a number.
 pub struct RequestUri {
@@ -25,6 +25,14 @@ pub struct ListAt {
     pub good: bool,
     pub count: usize,
     pub first: usize,
+}
+
+// P-Asserted-Identity: the set of the schemes of its identities, 1 for sip and 2 for tel (0: the value is malformed), and where the number
+// of its sip identity stands, or of the only one.
+pub struct AssertedAt {
+    pub schemes: u32,
+    pub start: usize,
+    pub len: usize,
 }
 
 const NO_NUMBER: octets::NumberAt = octets::NumberAt { size: 0, value: 0 };
@@ -95,10 +103,10 @@ pub fn party(v: &[u8]) -> sip::PartyAt
     address::party(&table, v)
 }
 
-// P-Asserted-Identity: where its number stands. Length 0 where the value is malformed.
-pub fn identity(v: &[u8]) -> sip::Span
-    ensures { λ r. ⌜ (r ≡ identityAt (now (v .entry))) × (r .start + r .len ≤ length (now (v .entry))) ⌝ }
+// P-Asserted-Identity: one identity, or a sip and a tel one, and nothing after them.
+pub fn asserted(v: &[u8]) -> AssertedAt
+    ensures { λ r. ⌜ (r ≡ assertedAt (now (v .entry))) × (r .start + r .len ≤ length (now (v .entry))) ⌝ }
 {
     let table = octets::class_table();
-    address::identity(&table, v)
+    address::asserted(&table, v)
 }

@@ -1,6 +1,6 @@
--- What the judge says of the identity, case by case (Callers).
+-- What the judge says of the identity, case by case, and that what is read lies within the message (Callers).
 use borrow.Author.Needs.{needs}
-use Rattle.gateway.proofs.Callers.{trunk-said, caller-said}
+use Rattle.gateway.proofs.Callers.{trunk-said, read-within, caller-said}
 use Rattle.gateway.proofs.calling_accepted.Statement.{statement}
 use Rattle.gateway.proofs.calling_accepted.Tie as tie
 
@@ -10,8 +10,8 @@ whole-trunk-requires c κs = search needs
 returns : tie.Need-returns
 returns c = search (trunk-said, needs)
 
-first-of-requires : tie.Need-first-of-requires
-first-of-requires c κs = search needs
+reading-of-requires : tie.Need-reading-of-requires
+reading-of-requires c κs = search needs
 
 part-requires : tie.Need-part-requires
 part-requires c κs = search needs
@@ -20,7 +20,7 @@ unfolded-at-requires : tie.Need-unfolded-at-requires
 unfolded-at-requires c κs = search needs
 
 add-start : tie.Need-add-start
-add-start c = search needs
+add-start c = search (read-within, needs)
 
 returns-2 : tie.Need-returns-2
 returns-2 c = search (caller-said, needs)
@@ -31,7 +31,7 @@ calling-accepted-spec =
     (tie.spec
     whole-trunk-requires
     returns
-    first-of-requires
+    reading-of-requires
     part-requires
     unfolded-at-requires
     add-start

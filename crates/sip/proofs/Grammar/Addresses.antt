@@ -1,36 +1,69 @@
 -- Addresses: `address` reads at the front of a text exactly what the grammar derives there, and finds its URI.
-use mathlib.Core.Path.{_≡_, refl, _∙_, ap}
+use mathlib.Core.Path.{_≡_, refl, _∙_, sym}
 use mathlib.Core.Bool.{Bool, true, false, cond}
 use mathlib.Core.List.{List, [], _∷_, _++_, append-assoc, append-nil}
 use Prim.Native.Nat.{ℕ, _+_, _≤_, _-_}
 use native.Mathlib.Omega.{arith}
 use lib.Dec.{eqb}
-use lib.ListN.{length, drop, length-append}
+use lib.ListN.{length, take, drop, length-append}
 use lib.Seq.{drop-append-seam, drop-append-add}
 use Rattle.octets.specs.Scans.{starts}
 use Rattle.sip.specs.declared.AddressAt.{AddressAt}
 use Rattle.sip.specs.declared.UriAt.{UriAt}
-use Rattle.sip.specs.Values.{tail, uri, display, noAddress, bracketed, bare, address}
-use Rattle.sip.specs.Grammar.{each-end, UriParts, Uri, tailOf, last-word, DisplayName, words-name, Address, name-addr, addr-spec}
+use Rattle.sip.specs.Values.{tail, uri, display, noAddress, bracketed, bare, address, personSize}
+use Rattle.sip.specs.Grammar.{each-end, UriParts, sip-parts, tel-parts, Uri, tailOf, isTelUri, personOf, last-word, DisplayName}
+use Rattle.sip.specs.Grammar.{words-name, Address, name-addr, addr-spec}
 use Rattle.sip.proofs.Tests.{byte-start}
 use Rattle.sip.proofs.Grammar.Bytes.{some-no}
 use Rattle.sip.proofs.Grammar.Schemes.{Clear}
-use Rattle.sip.proofs.Grammar.Uris.{Begins, UriView, begins, found, front-bare, front-some, front-uri, join, no-uri, uri-here}
-use Rattle.sip.proofs.Grammar.Uris.{uri-view}
+use Rattle.sip.proofs.Grammar.Uris.{Begins, UriFound, UriView, begins, found, front-bare, front-some, front-uri, join, no-uri}
+use Rattle.sip.proofs.Grammar.Uris.{person-at, person-size, uri-here, uri-view, withTail}
 use Rattle.sip.proofs.Grammar.Follows.{closed-bracket, tail-le, uri-before, uri-front}
 use Rattle.sip.proofs.Grammar.DisplayNames.{DisplayView, display-here, display-of, display-view, ending-bracket, ending-colon}
 
 -- ---- an address that is read is one
 
+-- what is read of the address x with a URI of these parts, at the front of s
+pub record AddressFound (s x : List ℕ) (u : UriParts) (a : AddressAt) : Type 0 where
+  pub size-is : a .size ≡ length x
+  pub tel-is : a .uri .tel ≡ isTelUri u
+  pub person-long : personSize (a .uri) ≡ length (personOf u)
+  pub person-there : take (length (personOf u)) (drop (a .at + 4) s) ≡ personOf u
+
+bare-found : {s : List ℕ} {u : UriParts} {p : UriAt} → Uri s u → UriFound p s u → (r : List ℕ)
+    → AddressFound (s ++ r) s u (record { size = length s; at = 0; uri = p })
+bare-found d f r = record { size-is = refl; tel-is = f .tel-is; person-long = person-size d f; person-there = person-at d r }
+
+bracketed-found : (d : List ℕ) {s : List ℕ} {u : UriParts} {p : UriAt} → Uri s u → UriFound p s u → (r : List ℕ)
+    → AddressFound ((d ++ (60 ∷ (s ++ (62 ∷ [])))) ++ r) (d ++ (60 ∷ (s ++ (62 ∷ [])))) u
+    (record { size = length (d ++ (60 ∷ (s ++ (62 ∷ [])))); at = length d + 1; uri = p })
+bracketed-found d {s} {u} us f r =
+    let w : List ℕ = s ++ (62 ∷ r) in
+    let split : (d ++ (60 ∷ (s ++ (62 ∷ [])))) ++ r ≡ d ++ (60 ∷ w) = simp append-assoc in
+    let k : length d + 1 + 4 ≡ length d + 5 = omega arith in
+    record {
+      size-is = refl;
+      tel-is = f .tel-is;
+      person-long = person-size us f;
+      person-there = rw (k, split, drop-append-add d (60 ∷ w) 5) (person-at us (62 ∷ r));
+    }
+
 pub data AddressView : List ℕ → AddressAt → Type 0 where
-  address-here : {x : List ℕ} {u : UriParts} {a : AddressAt} → Address x u → (r : List ℕ) → a .size ≡ length x → AddressView (x ++ r) a
+  address-here : {x : List ℕ} {u : UriParts} {a : AddressAt} → Address x u → (r : List ℕ) → AddressFound (x ++ r) x u a → AddressView (x ++ r) a
   no-address : {s : List ℕ} {a : AddressAt} → a .size ≡ 0 → AddressView s a
 
 bare-view : (s : List ℕ) (p : UriAt) → UriView s p
     → AddressView s (cond (eqb (p .size) 0) noAddress (record { size = p .tail; at = 0; uri = bare p }))
-bare-view _ _ (uri-here {f} {t} d e r) =
-    rw (some-no (length f + length t) (omega (arith, front-some d))) (address-here (addr-spec (front-uri d) (front-bare d)) (t ++ r) refl)
+bare-view _ _ (uri-here {f} {t} {u} d e r) =
+    let p : UriAt = bare (found u (length f) (length t)) in
+    let g : UriFound p f u = record { tel-is = refl; user-is = refl; size-is = refl } in
+    let a : AddressFound (f ++ (t ++ r)) f u (record { size = length f; at = 0; uri = p }) = bare-found (front-uri d) g (t ++ r) in
+    rw (some-no (length f + length t) (omega (arith, front-some d))) (address-here (addr-spec (front-uri d) (front-bare d)) (t ++ r) a)
 bare-view s _ no-uri = no-address refl
+
+found-join : (u : UriParts) (f t : List ℕ) → UriFound (found u (length f) (length t)) (f ++ t) (withTail u t)
+found-join (sip-parts u h d x) f t = record { tel-is = refl; user-is = refl; size-is = sym (length-append f t) }
+found-join (tel-parts n x) f t = record { tel-is = refl; user-is = refl; size-is = sym (length-append f t) }
 
 bracketed-view : {d : List ℕ} → DisplayName d → (s : List ℕ) (p : UriAt) → UriView s p
     → AddressView (d ++ (60 ∷ s)) (cond (eqb (p .size) 0) noAddress
@@ -45,7 +78,8 @@ bracketed-view {d} dd _ _ (uri-here {f} {t} {u} g e r) =
         let x : List ℕ = d ++ (60 ∷ ((f ++ t) ++ (62 ∷ []))) in
         let k : length d + (length f + length t) + 2 ≡ length x = simp length-append (omega arith) in
         let s : x ++ drop 1 r ≡ d ++ (60 ∷ (f ++ (t ++ (62 ∷ drop 1 r)))) = simp append-assoc in
-        rw (byte-start 62 r q, ← s) (address-here (name-addr dd (join g e)) (drop 1 r) k)
+        let a = bracketed-found d (join g e) (found-join u f t) (drop 1 r) in
+        rw (byte-start 62 r q, k, ← s) (address-here (name-addr dd (join g e)) (drop 1 r) a)
     go false q = no-address refl
 bracketed-view dd s _ no-uri = no-address refl
 
@@ -111,9 +145,15 @@ bare-of {s} {u} us e r c =
     rw (no-bracket (s ++ r) (begins us r), f, some-no (length s + tail r) (omega arith))
 
 -- every address before what a value goes on with
-pub address-of : {x : List ℕ} {u : UriParts} → Address x u → (r : List ℕ) → Clear r → address (x ++ r) .size ≡ length x
-address-of (name-addr d s) r c = ap (λ (a : AddressAt). a .size) (bracketed-of d s r)
-address-of (addr-spec s e) r c = ap (λ (a : AddressAt). a .size) (bare-of s e r c)
+pub address-of : {x : List ℕ} {u : UriParts} → Address x u → (r : List ℕ) → Clear r → AddressFound (x ++ r) x u (address (x ++ r))
+address-of (name-addr {d} {s} {u} dd us) r c =
+    let p : UriAt = found u (length s - length (tailOf u)) (length (tailOf u)) in
+    let f : UriFound p s u = record { tel-is = refl; user-is = refl; size-is = omega (arith, tail-le us) } in
+    rw (bracketed-of dd us r) (bracketed-found d us f r)
+address-of (addr-spec {s} {u} us e) r c =
+    let p : UriAt = bare (found u (length s) (tail r)) in
+    let f : UriFound p s u = record { tel-is = refl; user-is = refl; size-is = refl } in
+    rw (bare-of us e r c) (bare-found us f r)
 
 pub address-some : {x : List ℕ} {u : UriParts} → Address x u → 1 ≤ length x
 address-some (name-addr {d} {s} dd us) = omega (arith, length-append d (60 ∷ (s ++ (62 ∷ []))))

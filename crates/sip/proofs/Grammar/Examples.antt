@@ -11,7 +11,8 @@ use Rattle.octets.specs.Scans.{run, all, starts, runEscaped, quoted, decimal, n
 use Rattle.sip.specs.Profile.{rows, find, nameOf}
 use Rattle.sip.specs.Values.{isEmpty, isNumber, isMaxForwards, isContentLength, isCSeq, isCallId, host, port, hostPort, tail, sipFrom, sip}
 use Rattle.sip.specs.Values.{tel, uri, display, bracketed, address, sign, paramValue, paramRest, param, withParam, stops, params, party}
-use Rattle.sip.specs.Values.{isTo, isTagged, isFrom, isGlobal, person, identity, isIdentity, tokens, isPrivacy, isRequire}
+use Rattle.sip.specs.Values.{isTo, isTagged, isFrom, isGlobal, person, identity, identities, schemes, allowed, isAsserted, tokens}
+use Rattle.sip.specs.Values.{isPrivacy, isRequire}
 use Rattle.sip.specs.Refusals.{otherScheme, isUri, wellFormed}
 use Rattle.sip.specs.Grammar.{Token, UriParts, Uri, OtherScheme, notEmpty, Formed}
 use Rattle.sip.proofs.Tests.{never, and-left, and-right}
@@ -82,6 +83,9 @@ good =
     ∷ row 12 ""
     ∷ row 14 "100rel , timer"
     ∷ row 15 "tel:+1234567" ∷ row 15 "A <sip:+123456789012345@h;x>"
+    ∷ row 15 "<sip:+33187654321@h>,<tel:+33187654321>"
+    ∷ row 15 "tel:+33187654321 , sip:+4930123456@h"
+    ∷ row 15 "\"Doe, J\" <sip:+33187654321@h>\t,\ttel:+4930123456"
     ∷ row 16 "none ; ID"
     ∷ []
 
@@ -107,14 +111,21 @@ bad =
     ∷ row 8 "100000"
     ∷ row 14 "100rel," ∷ row 14 "a;b"
     ∷ row 15 "tel:+1234567;x" ∷ row 15 "<sip:+0234567@h>" ∷ row 15 "<sip:+123456@h>" ∷ row 15 "<sip:+1234567@h>;x"
+    ∷ row 15 "<sip:+33187654321@h>,<sip:+4930123456@h>"
+    ∷ row 15 "tel:+33187654321,tel:+4930123456"
+    ∷ row 15 "<sip:+33187654321@h>,<tel:+33187654321>,<sip:+4930123456@h>"
+    ∷ row 15 ",<tel:+33187654321>" ∷ row 15 "<sip:+33187654321@h>," ∷ row 15 ","
+    ∷ row 15 "<sip:+33187654321@h> <tel:+33187654321>"
+    ∷ row 15 "<sip:+33187654321@h>;x,<tel:+33187654321>"
+    ∷ row 15 "<sip:+33187654321@h>,<tel:+0187654321>"
     ∷ row 16 "" ∷ row 16 "id;" ∷ row 16 "id,x"
     ∷ []
 
 readings : (every (wellFormed (text "INVITE")) good ≡ true) × (none (wellFormed (text "INVITE")) bad ≡ true)
 unfolding text wellFormed isEmpty isNumber isMaxForwards isContentLength isCSeq isCallId isTo isTagged isFrom isGlobal person identity
-    isIdentity tokens isPrivacy isRequire party address display bracketed uri sip tel sipFrom hostPort host port tail params stops
-    withParam param paramRest paramValue sign run all starts runEscaped quoted decimal number same sameText isToken isBlank isDigit isUser
-    isHost isParameter isVisible
+    identities schemes allowed isAsserted tokens isPrivacy isRequire party address display bracketed uri sip tel sipFrom hostPort host port
+    tail params stops withParam param paramRest paramValue sign run all starts runEscaped quoted decimal number same sameText isToken isBlank
+    isDigit isUser isHost isParameter isVisible
 readings = (refl, refl)
 
 invite : Token (text "INVITE")
@@ -135,19 +146,19 @@ otherSchemes = row 0 "sips:a@b" ∷ row 0 "http:x" ∷ row 0 "gw.example:5060" �
 abbrev malformed : List Row
 malformed = row 0 "*" ∷ row 0 ":x" ∷ row 0 "a b:x" ∷ row 0 "SIP:" ∷ row 0 "tel:" ∷ row 0 "sip:h:65536" ∷ []
 
-schemes : (every (λ k. otherScheme) otherSchemes ≡ true) × (none (λ k. otherScheme) malformed ≡ true) × (none (λ k. isUri) malformed ≡ true)
+uriReadings : (every (λ k. otherScheme) otherSchemes ≡ true) × (none (λ k. otherScheme) malformed ≡ true) × (none (λ k. isUri) malformed ≡ true)
 unfolding text otherScheme isUri uri sip tel sipFrom hostPort host port tail isEmpty all run starts runEscaped number sameText isToken isUser
     isHost isParameter
-schemes = (refl, refl, refl)
+uriReadings = (refl, refl, refl)
 
 abbrev pub IsUri : List ℕ → Type 0
 IsUri s = (u : UriParts) × Uri s u
 
 pub scheme-edges : Every (λ k. OtherScheme) otherSchemes × No (λ k. OtherScheme) malformed × No (λ k. IsUri) malformed
 scheme-edges = (
-  derived (λ k. otherScheme) (λ k. OtherScheme) (λ k. scheme-read) otherSchemes (schemes .0),
-  not-derived (λ k. otherScheme) (λ k. OtherScheme) (λ k. scheme-read) malformed (schemes .1),
-  not-derived (λ k. isUri) (λ k. IsUri) (λ k. uri-read) malformed (schemes .2),
+  derived (λ k. otherScheme) (λ k. OtherScheme) (λ k. scheme-read) otherSchemes (uriReadings .0),
+  not-derived (λ k. otherScheme) (λ k. OtherScheme) (λ k. scheme-read) malformed (uriReadings .1),
+  not-derived (λ k. isUri) (λ k. IsUri) (λ k. uri-read) malformed (uriReadings .2),
 )
 
 -- ---- the fields that the grammar tells by their numbers

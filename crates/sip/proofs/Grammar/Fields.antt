@@ -12,7 +12,8 @@ use Rattle.sip.specs.Grammar.{require-value, identity-value, privacy-val
 use Rattle.sip.proofs.Tests.{never}
 use Rattle.sip.proofs.Grammar.Separators.{not-empty-some, some-not-empty, token-no-blank}
 use Rattle.sip.proofs.Grammar.Tokens.{privacy-complete, privacy-sound, require-complete, require-sound}
-use Rattle.sip.proofs.Grammar.Parties.{from-complete, from-sound, identity-complete, identity-sound, to-complete, to-sound}
+use Rattle.sip.proofs.Grammar.Parties.{from-complete, from-sound, to-complete, to-sound}
+use Rattle.sip.proofs.Grammar.Identities.{asserted-complete, asserted-sound}
 use Rattle.sip.proofs.Grammar.Numbers.{call-id-complete, call-id-sound, content-length-complete, content-length-sound}
 use Rattle.sip.proofs.Grammar.Numbers.{cseq-complete, cseq-sound, max-forwards-complete, max-forwards-sound}
 
@@ -44,7 +45,7 @@ formed-sound method k v e =
     choose (eqb k 6) _ _ e (λ a b. at-number k 6 a (cseq-value (cseq-sound method v b))) (λ n₅ e.
     choose (eqb k 8) _ _ e (λ a b. at-number k 8 a (content-length-value (content-length-sound v b))) (λ n₆ e.
     choose (eqb k 14) _ _ e (λ a b. at-number k 14 a (require-value (require-sound v b))) (λ n₇ e.
-    choose (eqb k 15) _ _ e (λ a b. at-number k 15 a (identity-value (identity-sound v b))) (λ n₈ e.
+    choose (eqb k 15) _ _ e (λ a b. let (us, d, h) = asserted-sound v b in at-number k 15 a (identity-value d h)) (λ n₈ e.
     choose (eqb k 16) _ _ e (λ a b. at-number k 16 a (privacy-value (privacy-sound v b))) (λ n₉ e. any-value (rest n₀ n₁ n₂ n₃ n₄ n₅ n₆ n₇ n₈ n₉) v))))))))))
   where
     rest : isNotEmpty k ≡ false → eqb k 2 ≡ false → eqb k 3 ≡ false → eqb k 4 ≡ false → eqb k 5 ≡ false → eqb k 6 ≡ false → eqb k 8 ≡ false → eqb k 14 ≡ false
@@ -67,7 +68,7 @@ formed-complete m (call-id-value h) = call-id-complete h
 formed-complete {method} m (cseq-value h) = cseq-complete (rw append-nil at (token-no-blank method [] m)) h
 formed-complete m (content-length-value h) = content-length-complete h
 formed-complete m (require-value h) = require-complete h .0
-formed-complete m (identity-value h) = identity-complete h .0
+formed-complete m (identity-value d h) = asserted-complete d h
 formed-complete m (privacy-value h) = privacy-complete h .0
 formed-complete m {k} (any-value e v) =
     let (x₁, y₁) = or-no (eqb k 1) _ e in

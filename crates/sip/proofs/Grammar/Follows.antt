@@ -1,4 +1,4 @@
--- What may follow a URI does not change how it is read: the end, `>`, and every derivation of parameters.
+-- What may follow a URI does not change how it is read: the end, `>`, every derivation of parameters, and a comma and an address.
 use mathlib.Core.Path.{_≡_, refl, _∙_, sym, ap}
 use mathlib.Core.Bool.{Bool, true, false, not, _||_}
 use mathlib.Core.List.{List, [], _∷_, _++_, append-assoc, append-nil}
@@ -14,7 +14,8 @@ use Rattle.sip.specs.Values.{tail, uri}
 use Rattle.sip.specs.Refusals.{isUri}
 use Rattle.sip.specs.Grammar.{Separator, blanks-around, BytesOrEscapes, no-bytes, one-byte, one-escape, quoted-string, Token, GenValue}
 use Rattle.sip.specs.Grammar.{token-value, string-value, Param, name-alone, name-value, tag-value, Params, no-params, param-and}
-use Rattle.sip.specs.Grammar.{Tail, no-tail, tail-of, UriParts, sip-parts, tel-parts, Uri, tailOf}
+use Rattle.sip.specs.Grammar.{Tail, no-tail, tail-of, UriParts, sip-parts, tel-parts, Uri, tailOf, Words, last-word, word-and}
+use Rattle.sip.specs.Grammar.{DisplayName, no-name, quoted-name, words-name, Address, name-addr, addr-spec}
 use Rattle.sip.proofs.Tests.{never, and-left, and-right, all-first}
 use Rattle.sip.proofs.Grammar.Bytes.{all-of, end, some-no, stop}
 use Rattle.sip.proofs.Grammar.Separators.{sign-stops}
@@ -22,8 +23,8 @@ use Rattle.sip.proofs.Grammar.Escapes.{EscapedEnds, escaped-end, escape
 use Rattle.sip.proofs.Grammar.Param.{tag-token}
 use Rattle.sip.proofs.Grammar.Hosts.{NoAt, Past, at-end, at-stop, escape-not, no-at-before, not-at, tail-exact}
 use Rattle.sip.proofs.Grammar.Schemes.{Clear}
-use Rattle.sip.proofs.Grammar.Uris.{UriView, cut, found, front-complete, front-some, join, no-uri, uri-here, uri-view, withTail}
-use Rattle.sip.proofs.Grammar.Uris.{without}
+use Rattle.sip.proofs.Grammar.Uris.{Begins, UriView, begins, cut, found, front-complete, front-some, join, no-uri, uri-here, uri-view}
+use Rattle.sip.proofs.Grammar.Uris.{withTail, without}
 
 -- ---- what follows a URI
 
@@ -70,15 +71,19 @@ pub blank-digit : (b : ℕ) → isBlank b ≡ true → isDigit b ≡ false
 unfolding isDigit
 blank-digit b e = blank-both isDigit refl refl b e
 
-sign-past : {c : List ℕ} → Separator 59 c → (r : List ℕ) → Past (c ++ r)
+sign-past : {b : ℕ} {c : List ℕ} → isHost b ≡ false → isDigit b ≡ false → (b ≡ 58 → ⊥) → Separator b c → (r : List ℕ) → Past (c ++ r)
 unfolding isHost isBlank starts
-sign-past {c} sc r =
-    record { no-host = sign-stops isHost (blank-both isHost refl refl) refl sc r; no-digit = sign-stops isDigit blank-digit refl sc r; no-colon = go sc }
+sign-past {b} {c} h d n sc r =
+    record { no-host = sign-stops isHost (blank-both isHost refl refl) h sc r; no-digit = sign-stops isDigit blank-digit d sc r; no-colon = go sc }
   where
-    go : {c : List ℕ} → Separator 59 c → starts 58 (c ++ r) ≡ false
-    go (blanks-around {x = []} e f) = refl
-    go (blanks-around {x = b ∷ x} e f) =
-        ne-eqb b 58 (λ q. let z : true ≡ false = sym (all-first isBlank b x (all-of e)) ∙ ap isBlank q in never (cc))
+    go : {c : List ℕ} → Separator b c → starts 58 (c ++ r) ≡ false
+    go (blanks-around {x = []} e f) = ne-eqb b 58 n
+    go (blanks-around {x = a ∷ x} e f) =
+        ne-eqb a 58 (λ q. let z : true ≡ false = sym (all-first isBlank a x (all-of e)) ∙ ap isBlank q in never (cc))
+
+semicolon-past : {c : List ℕ} → Separator 59 c → (r : List ℕ) → Past (c ++ r)
+unfolding isHost
+semicolon-past sc r = sign-past refl refl (λ q. omega arith) sc r
 
 sign-no-at : {b : ℕ} {c : List ℕ} → (b ≡ 64 → ⊥) → Separator b c → (r : List ℕ) → NoAt r → NoAt (c ++ r)
 unfolding isBlank
@@ -96,19 +101,47 @@ value-no-at (string-value (quoted-string {s} d)) r n = at-stop {b = 34} (s ++ r)
 
 param-clear : {x : List ℕ} {ts : List (List ℕ)} → Param x ts → (r : List ℕ) → NoAt r → Clear (x ++ r)
 param-clear (name-alone {c} {n} sc o) r m =
-    rw (append-assoc c n r) (record { past = sign-past sc (n ++ r); no-at = sign-no-at (λ q. omega arith) sc (n ++ r) (token-no-at (o .token) r m) })
+    rw (append-assoc c n r) (record { past = semicolon-past sc (n ++ r); no-at = sign-no-at (λ q. omega arith) sc (n ++ r) (token-no-at (o .token) r m) })
 param-clear (name-value {c} {n} {e} {v} sc o se d) r m =
     let s : (c ++ (n ++ (e ++ v))) ++ r ≡ c ++ (n ++ (e ++ (v ++ r))) = simp append-assoc in
     let a : NoAt (e ++ (v ++ r)) = sign-no-at (λ q. omega arith) se (v ++ r) (value-no-at d r m) in
-    rw s (record { past = sign-past sc (n ++ (e ++ (v ++ r))); no-at = sign-no-at (λ q. omega arith) sc (n ++ (e ++ (v ++ r))) (token-no-at (o .token) (e ++ (v ++ r)) a) })
+    rw s (record { past = semicolon-past sc (n ++ (e ++ (v ++ r))); no-at = sign-no-at (λ q. omega arith) sc (n ++ (e ++ (v ++ r))) (token-no-at (o .token) (e ++ (v ++ r)) a) })
 param-clear (tag-value {c} {n} {e} {v} sc o se d l) r m =
     let s : (c ++ (n ++ (e ++ v))) ++ r ≡ c ++ (n ++ (e ++ (v ++ r))) = simp append-assoc in
     let a : NoAt (e ++ (v ++ r)) = sign-no-at (λ q. omega arith) se (v ++ r) (token-no-at d r m) in
-    rw s (record { past = sign-past sc (n ++ (e ++ (v ++ r))); no-at = sign-no-at (λ q. omega arith) sc (n ++ (e ++ (v ++ r))) (token-no-at (tag-token o) (e ++ (v ++ r)) a) })
+    rw s (record { past = semicolon-past sc (n ++ (e ++ (v ++ r))); no-at = sign-no-at (λ q. omega arith) sc (n ++ (e ++ (v ++ r))) (token-no-at (tag-token o) (e ++ (v ++ r)) a) })
 
 pub params-clear : {s : List ℕ} {ts : List (List ℕ)} → Params s ts → Clear s
 params-clear no-params = clear-end
 params-clear (param-and {s = s} d ds) = param-clear d s (params-clear ds .no-at)
+
+-- a comma, and what holds no `@` of a user
+pub comma-clear : {c : List ℕ} → Separator 44 c → (r : List ℕ) → NoAt r → Clear (c ++ r)
+unfolding isHost
+comma-clear sc r n = record { past = sign-past refl refl (λ q. omega arith) sc r; no-at = sign-no-at (λ q. omega arith) sc r n }
+
+words-no-at : {w : List ℕ} → Words w → (r : List ℕ) → NoAt r → NoAt (w ++ r)
+unfolding isBlank
+words-no-at (last-word h) r n = token-no-at h r n
+words-no-at (word-and {t} {b} {s} h e l d) r n =
+    let split : (t ++ (b ++ s)) ++ r ≡ t ++ (b ++ (s ++ r)) = simp append-assoc in
+    rw split (token-no-at h (b ++ (s ++ r)) (no-at-before isBlank refl b (s ++ r) (all-of e) (words-no-at d r n)))
+
+name-no-at : {d : List ℕ} → DisplayName d → (r : List ℕ) → NoAt r → NoAt (d ++ r)
+unfolding isBlank isUser isHex
+name-no-at no-name r n = n
+name-no-at (quoted-name {b} (quoted-string {s} d) e) r n = at-stop {b = 34} ((s ++ b) ++ r) refl refl (λ q. omega arith) (λ q. omega arith)
+name-no-at (words-name {w} {b} d e) r n =
+    rw (append-assoc w b r) (words-no-at d (b ++ r) (no-at-before isBlank refl b r (all-of e) n))
+
+-- no user begins where an address does
+pub address-no-at : {x : List ℕ} {u : UriParts} → Address x u → NoAt x
+unfolding isUser isHex
+address-no-at (name-addr {d} {s} dd us) =
+    name-no-at dd (60 ∷ (s ++ (62 ∷ []))) (at-stop {b = 60} (s ++ (62 ∷ [])) refl refl (λ q. omega arith) (λ q. omega arith))
+address-no-at (addr-spec {s} us e) =
+    let b : Begins s = rw append-nil at (begins us []) in
+    rw (b .made) (token-no-at (b .is-token) (58 ∷ b .others) (at-stop {b = 58} (b .others) refl refl (λ q. omega arith) (λ q. omega arith)))
 
 -- ---- a URI that stands at the front is read
 

@@ -1,19 +1,20 @@
--- Max-Forwards, Content-Length, CSeq and Call-ID: each is accepted exactly if the grammar derives it.
+-- Max-Forwards, Content-Length, CSeq, Call-ID and global numbers: each is accepted exactly if the grammar derives it.
 use mathlib.Core.Path.{_≡_, refl, _∙_, sym}
-use mathlib.Core.Bool.{true, not, _&&_}
+use mathlib.Core.Bool.{true, false, not, _&&_}
 use mathlib.Core.List.{List, [], _∷_, _++_, append-nil}
 use Prim.Native.Nat.{ℕ, suc, _+_, _≤_, zero, _-_, _*_}
 use native.Mathlib.Omega.{arith}
 use lib.Dec.{eqb}
 use lib.ListN.{length, drop, length-append}
 use lib.Seq.{drop-append-seam, drop-append-add}
-use borrow.Author.Tests.{eq-eqb, eqb-true, eqb-false, not-true}
+use borrow.Author.Tests.{eq-eqb, ne-eqb, eqb-true, eqb-false, not-true}
 use Rattle.octets.specs.Classes.{within, isBlank, isDigit}
-use Rattle.octets.specs.Scans.{run, all, decimal, number, same}
+use Rattle.octets.specs.Scans.{run, all, starts, decimal, number, same}
 use Rattle.octets.specs.declared.NumberAt.{NumberAt}
-use Rattle.sip.specs.Values.{isNumber, isMaxForwards, isContentLength, isCSeq, isCallId}
-use Rattle.sip.specs.Grammar.{Each, Long, MaxForwards, ContentLength, CSeq, cseq-of, CallId}
-use Rattle.sip.proofs.Tests.{never, and-left, and-right, range-high, all-first, all-others}
+use Rattle.octets.proofs.Runs.{run-whole, whole-all}
+use Rattle.sip.specs.Values.{isNumber, isMaxForwards, isContentLength, isCSeq, isCallId, isGlobal}
+use Rattle.sip.specs.Grammar.{Each, Long, MaxForwards, ContentLength, CSeq, cseq-of, CallId, GlobalNumber, global-number}
+use Rattle.sip.proofs.Tests.{never, and-left, and-right, range-low, range-high, in-range, all-first, all-others}
 use Rattle.sip.proofs.Texts.{same-eq, same-refl}
 use Rattle.sip.proofs.Grammar.Bytes.{Ends, NumberView, RunView, all-of, each-all, end, long-of, not-number, number-here, number-of}
 use Rattle.sip.proofs.Grammar.Bytes.{number-view, ran, run-of, run-view, some-no, stop, within-long}
@@ -124,3 +125,30 @@ call-id-sound v e =
 pub call-id-complete : {v : List ℕ} → CallId v → isCallId v ≡ true
 unfolding isCallId
 call-id-complete {v} h = rw (within-long (h .long)) (all-of (h .bytes))
+
+-- ---- the numbers of P-Asserted-Identity
+
+pub global-sound : (s : List ℕ) → isGlobal s ≡ true → GlobalNumber s
+unfolding isGlobal starts run isDigit
+global-sound [] e = never (cc)
+global-sound (b ∷ []) e = let z : false ≡ true = and-right (eqb b 43) false e in never (cc)
+global-sound (b ∷ c ∷ s) e =
+    let n : ℕ = run isDigit (c ∷ s) in
+    let f : (not (eqb c 48) && (within 7 15 n && eqb (n + 1) (suc (suc (length s))))) ≡ true = and-right (eqb b 43) _ e in
+    let g : (within 7 15 n && eqb (n + 1) (suc (suc (length s)))) ≡ true = and-right (not (eqb c 48)) _ f in
+    let k : n + 1 ≡ suc (suc (length s)) = eqb-true _ _ (and-right (within 7 15 n) _ g) in
+    let w : within 7 15 n ≡ true = and-left _ _ g in
+    let a : all isDigit (c ∷ s) ≡ true = whole-all isDigit (c ∷ s) (omega arith) in
+    let x : (c ≡ 48 → ⊥) = eqb-false c 48 (not-true _ (and-left _ (within 7 15 n && eqb (n + 1) (suc (suc (length s)))) f)) in
+    let h : within 48 57 c ≡ true = all-first isDigit c s a in
+    let l : Long 6 14 s = record { least = omega (arith, range-low 7 15 n w); most = omega (arith, range-high 7 15 n w) } in
+    rw (eqb-true b 43 (and-left _ _ e))
+    (global-number {d = c} (omega (arith, range-low 48 57 c h, x)) (range-high 48 57 c h) (each-all (all-others isDigit c s a)) l)
+
+pub global-complete : {s : List ℕ} → GlobalNumber s → isGlobal s ≡ true
+unfolding isGlobal starts isDigit all
+global-complete (global-number {d} {ds} lo hi e l) =
+    let h : isDigit d ≡ true = in-range 48 57 d (omega arith) hi in
+    let a : all isDigit (d ∷ ds) ≡ true = rw (h, all-of e) in
+    let w : within 7 15 (suc (length ds)) ≡ true = in-range 7 15 (suc (length ds)) (omega (arith, l .least)) (omega (arith, l .most)) in
+    rw (run-whole isDigit (d ∷ ds) a, ne-eqb d 48 (λ q. omega arith), w) (eq-eqb (suc (length ds) + 1) (suc (suc (length ds))) (omega arith))

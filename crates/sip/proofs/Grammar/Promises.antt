@@ -5,16 +5,16 @@ use Rattle.sip.specs.Refusals.{firstCSeqMethod, responseColumnOf}
 use Rattle.sip.specs.Change.{StartShaped}
 use Rattle.sip.specs.Grammar.{personOf}
 use Rattle.sip.specs.GrammarPromises.{TagsRead, RestrictsRead, LackingRead, UriRead, OneUri, PersonRead, CalledRead, ToRead, FromRead}
-use Rattle.sip.specs.GrammarPromises.{OneParty, IdentityRead, PrivacyRead, RequireRead, FieldRead, MethodToken, SchemeRead}
-use Rattle.sip.specs.GrammarPromises.{TaggedRead, NoOther, ResponseMethodToken, CSeqMethodRead, NoCSeqMethodRead}
+use Rattle.sip.specs.GrammarPromises.{OneParty, AssertedRead, IdentitiesFound, AllowedRead, PrivacyRead, RequireRead, FieldRead}
+use Rattle.sip.specs.GrammarPromises.{MethodToken, SchemeRead, TaggedRead, NoOther, ResponseMethodToken, CSeqMethodRead, NoCSeqMethodRead}
 use Rattle.sip.specs.GrammarPromises.{NothingLifts, OthersChangeNothing}
 use Rattle.sip.proofs.Change.{everything}
 use Rattle.sip.proofs.Grammar.Bytes.{each-all}
 use Rattle.sip.proofs.Grammar.Tokens.{lacking-complete, lacking-sound, nothing-lifted, others-unchanged, privacy-complete, privacy-sound}
 use Rattle.sip.proofs.Grammar.Tokens.{require-complete, require-sound, restricts-complete, restricts-sound}
 use Rattle.sip.proofs.Grammar.Follows.{uri-complete, uri-sound}
-use Rattle.sip.proofs.Grammar.Parties.{from-complete, from-sound, identity-complete, identity-sound, tagged-complete, tagged-sound}
-use Rattle.sip.proofs.Grammar.Parties.{tags-found, to-complete, to-sound}
+use Rattle.sip.proofs.Grammar.Parties.{from-complete, from-sound, tagged-complete, tagged-sound, tags-found, to-complete, to-sound}
+use Rattle.sip.proofs.Grammar.Identities.{allowed-complete, allowed-sound, asserted-complete, asserted-sound, identities-in}
 use Rattle.sip.proofs.Grammar.Unique.{party-unique, person-found, uri-unique}
 use Rattle.sip.proofs.Grammar.RequestUris.{called-complete, called-sound, no-other, scheme-complete, scheme-sound}
 use Rattle.sip.proofs.Grammar.Methods.{column-token, named-complete, named-none, named-sound, none-named}
@@ -53,8 +53,14 @@ from-read v t = ((λ (e, f). let (u, d) = from-sound v e in (u, rw f at d)), (λ
 pub one-party : OneParty
 one-party v u w ts us d e = party-unique d e
 
-pub identity-read : IdentityRead
-identity-read v n = ((λ (e, f). rw f at (identity-sound v e)), (λ d. identity-complete d))
+pub asserted-read : AssertedRead
+asserted-read v = ((λ e. asserted-sound v e), (λ (us, d, a). asserted-complete d a))
+
+pub identities-found : IdentitiesFound
+identities-found v us d = identities-in d
+
+pub allowed-read : AllowedRead
+allowed-read us = ((λ e. allowed-sound us e), (λ a. allowed-complete a))
 
 pub privacy-read : PrivacyRead
 privacy-read v ts = ((λ (e, f). rw f at (privacy-sound v e)), (λ d. privacy-complete d))

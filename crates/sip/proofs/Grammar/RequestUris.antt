@@ -21,7 +21,7 @@ use Rattle.sip.proofs.Grammar.Bytes.{Ends, RunView, all-of, case-same, 
 use Rattle.sip.proofs.Grammar.Bytes.{run-of, run-view, stop, within-long}
 use Rattle.sip.proofs.Grammar.Separators.{not-empty-some, some-not-empty}
 use Rattle.sip.proofs.Grammar.Uris.{Begins, begins}
-use Rattle.sip.proofs.Grammar.Parties.{global-complete, global-sound}
+use Rattle.sip.proofs.Grammar.Numbers.{global-complete, global-sound}
 
 -- ---- the scheme
 

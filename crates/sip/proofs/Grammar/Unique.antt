@@ -14,10 +14,10 @@ use Rattle.sip.specs.Grammar.{Userinfo, no-user, user-at, Host, Port, no
 use Rattle.sip.specs.Grammar.{sip-uri, tel-uri, tailOf, Address, name-addr, addr-spec, personOf, Party, party-of}
 use Rattle.sip.proofs.Grammar.Bytes.{Ends, end, run-of, stop}
 use Rattle.sip.proofs.Grammar.Schemes.{Clear}
-use Rattle.sip.proofs.Grammar.Uris.{found, four-sip, four-tel}
+use Rattle.sip.proofs.Grammar.Uris.{UriFound, found, four-sip, four-tel, person-at, person-size, take-user}
 use Rattle.sip.proofs.Grammar.Follows.{params-clear, tail-le, uri-found}
 use Rattle.sip.proofs.Grammar.Addresses.{bare-of, bracketed-of}
-use Rattle.sip.proofs.Grammar.Parties.{person-of, tags-found, take-user}
+use Rattle.sip.proofs.Grammar.Parties.{tags-found}
 
 -- a user and its `@`
 abbrev withAt : List ℕ → List ℕ
@@ -102,7 +102,8 @@ party-unique d e = (sym (party-parts d) ∙ party-parts e, sym (tags-found d) �
 
 -- the sip user, or the tel text after the colon, of a Request-URI
 pub person-found : {s : List ℕ} {u : UriParts} → Uri s u → person (uri s) s ≡ personOf u
+unfolding person
 person-found {s} {u} d =
-    let l : length s - length (tailOf u) + length (tailOf u) ≡ length s = omega (arith, tail-le d) in
     let p : UriAt = found u (length s - length (tailOf u)) (length (tailOf u)) in
-    rw (uri-found d) (rw append-nil at (person-of d [] p refl refl l))
+    let f : UriFound p s u = record { tel-is = refl; user-is = refl; size-is = omega (arith, tail-le d) } in
+    rw (uri-found d, person-size d f) (rw append-nil at (person-at d []))

@@ -2,16 +2,16 @@
 use mathlib.Core.Path.{_≡_, refl, _∙_, sym, ap}
 use mathlib.Core.Bool.{Bool, true, false, cond}
 use mathlib.Core.List.{List, [], _∷_, _++_, append-assoc, append-nil}
-use Prim.Native.Nat.{ℕ, _+_, _≤_, _<_}
+use Prim.Native.Nat.{ℕ, _+_, _-_, _≤_, _<_}
 use native.Mathlib.Omega.{arith}
 use lib.ListN.{length, take, drop, length-append, take-append-drop}
-use lib.Seq.{take-at, drop-at}
+use lib.Seq.{take-append-seam, take-at, drop-at}
 use Rattle.octets.specs.Classes.{isToken, text}
 use Rattle.octets.specs.Scans.{all, lower, sameText}
 use Rattle.sip.specs.declared.UriAt.{UriAt}
-use Rattle.sip.specs.Values.{noUri, tail, sip, tel, uri}
-use Rattle.sip.specs.Grammar.{AnyCase, case-end, as-it-is, as-capital, Token, Tail, no-tail, UriParts, sip-parts, tel-parts, Uri}
-use Rattle.sip.specs.Grammar.{sip-uri, tel-uri, tailOf}
+use Rattle.sip.specs.Values.{noUri, tail, sip, tel, uri, personSize}
+use Rattle.sip.specs.Grammar.{AnyCase, case-end, as-it-is, as-capital, Token, Userinfo, no-user, user-at, Tail, no-tail, UriParts}
+use Rattle.sip.specs.Grammar.{sip-parts, tel-parts, Uri, sip-uri, tel-uri, tailOf, isTelUri, personOf}
 use Rattle.sip.proofs.Texts.{same-parts}
 use Rattle.sip.proofs.Grammar.Bytes.{case-length, case-same, same-case, word-token}
 use Rattle.sip.proofs.Grammar.Schemes.{Clear, Front, SipView, TelView, no-sip, no-tel, sip-front, sip-here, sip-of, sip-view}
@@ -19,17 +19,13 @@ use Rattle.sip.proofs.Grammar.Schemes.{tel-front, tel-here, tel-of, tel
 
 -- ---- a URI
 
-abbrev pub isTel : UriParts → Bool
-isTel (sip-parts u h d t) = false
-isTel (tel-parts n t) = true
-
 abbrev pub userOf : UriParts → List ℕ
 userOf (sip-parts u h d t) = u
 userOf (tel-parts n t) = []
 
 -- what is read of a URI with these parts: f bytes, and a tail of t bytes
 abbrev pub found : UriParts → ℕ → ℕ → UriAt
-found u f t = record { size = f + t; tel = isTel u; user = length (userOf u); tail = f }
+found u f t = record { size = f + t; tel = isTelUri u; user = length (userOf u); tail = f }
 
 pub data UriView : List ℕ → UriAt → Type 0 where
   uri-here : {f t : List ℕ} {u : UriParts} → Front f u → Tail t → (r : List ℕ) → UriView (f ++ (t ++ r)) (found u (length f) (length t))
@@ -132,6 +128,31 @@ front-uri {f} (tel-front e ds) = rw append-nil at (join (tel-front e ds) no-tail
 pub front-bare : {f : List ℕ} {u : UriParts} → Front f u → tailOf u ≡ []
 front-bare (sip-front e us hs ps) = refl
 front-bare (tel-front e ds) = refl
+
+-- ---- the sip user, or the tel text
+
+pub take-user : {a u : List ℕ} → Userinfo a u → (w : List ℕ) → take (length u) (a ++ w) ≡ u
+take-user no-user w = refl
+take-user (user-at {u} d l) w = rw (append-assoc u (64 ∷ []) w) (take-append-seam u (64 ∷ w))
+
+-- what is read of a URI with these parts, with or without its tail
+pub record UriFound (p : UriAt) (s : List ℕ) (u : UriParts) : Type 0 where
+  pub tel-is : p .tel ≡ isTelUri u
+  pub user-is : p .user ≡ length (userOf u)
+  pub size-is : p .size ≡ length s
+
+pub person-size : {s : List ℕ} {u : UriParts} {p : UriAt} → Uri s u → UriFound p s u → personSize p ≡ length (personOf u)
+person-size (sip-uri e us hs ps ts) f = rw (f .tel-is) (f .user-is)
+person-size {p = p} (tel-uri {k} {n} {t} e ds ts) f =
+    let l : p .size - 4 ≡ length (n ++ t) = omega (arith, f .size-is, four-tel e, length-append k (n ++ t)) in
+    rw (f .tel-is) l
+
+pub person-at : {s : List ℕ} {u : UriParts} → Uri s u → (r : List ℕ) → take (length (personOf u)) (drop 4 (s ++ r)) ≡ personOf u
+person-at (sip-uri {k} {a} {u} {h} {q} {d} {t} e us hs ps ts) r =
+    let w : List ℕ = h ++ (q ++ t) in
+    rw (append-assoc k (a ++ w) r, drop-at k ((a ++ w) ++ r) 4 (four-sip e), append-assoc a w r) (take-user us (w ++ r))
+person-at (tel-uri {k} {n} {t} e ds ts) r =
+    rw (append-assoc k (n ++ t) r, drop-at k ((n ++ t) ++ r) 4 (four-tel e)) (take-append-seam (n ++ t) r)
 
 -- ---- a URI begins with its scheme and a colon
 

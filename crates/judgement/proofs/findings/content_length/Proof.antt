@@ -13,7 +13,7 @@ use Rattle.judgement.proofs.findings.content_length.Statement.{statemen
 use Rattle.judgement.proofs.findings.content_length.Tie as tie
 
 length-found : (v : List ℕ) {h : NumberAt} → h ≡ wholeNumber 5 99999 v
-    → record { good = not (eqb (h .size) 0); start = 0; len = h .value } ≡ finding [] 8 v
+    → record { good = not (eqb (h .size) 0); schemes = 0; start = 0; len = h .value } ≡ finding [] 8 v
 unfolding finding
 length-found v e = rw e
 

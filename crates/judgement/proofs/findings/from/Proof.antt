@@ -12,11 +12,11 @@ use Rattle.judgement.proofs.findings.from.Statement.{statement}
 use Rattle.judgement.proofs.findings.from.Tie as tie
 
 module _ (v : List ℕ) {p : PartyAt} (e : p ≡ party v) where
-  whole : p .good ≡ true → record { good = not (eqb (p .len) 0); start = p .tag; len = p .len } ≡ finding [] 3 v
+  whole : p .good ≡ true → record { good = not (eqb (p .len) 0); schemes = 0; start = p .tag; len = p .len } ≡ finding [] 3 v
   unfolding finding
   whole q = rw (← e, q)
 
-  other : p .good ≡ false → record { good = p .good; start = p .tag; len = p .len } ≡ finding [] 3 v
+  other : p .good ≡ false → record { good = p .good; schemes = 0; start = p .tag; len = p .len } ≡ finding [] 3 v
   unfolding finding
   other q = rw (← e, q)
 

@@ -13,7 +13,7 @@ use Rattle.judgement.proofs.findings.max_forwards.Statement.{statement}
 use Rattle.judgement.proofs.findings.max_forwards.Tie as tie
 
 hops-found : (v : List ℕ) {h : NumberAt} → h ≡ wholeNumber 3 255 v
-    → record { good = not (eqb (h .size) 0); start = 0; len = h .value } ≡ finding [] 2 v
+    → record { good = not (eqb (h .size) 0); schemes = 0; start = 0; len = h .value } ≡ finding [] 2 v
 unfolding finding
 hops-found v e = rw e
 

@@ -10,7 +10,7 @@ use Rattle.judgement.proofs.Bounds.{privacy-bound}
 use Rattle.judgement.proofs.findings.privacy.Statement.{statement}
 use Rattle.judgement.proofs.findings.privacy.Tie as tie
 
-privacy-found : (v : List ℕ) {l : ListAt} → l ≡ privacyAt v → record { good = l .good; start = l .first; len = 0 } ≡ finding [] 16 v
+privacy-found : (v : List ℕ) {l : ListAt} → l ≡ privacyAt v → record { good = l .good; schemes = 0; start = l .first; len = 0 } ≡ finding [] 16 v
 unfolding finding
 privacy-found v e = rw e
 

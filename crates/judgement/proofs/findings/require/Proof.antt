@@ -10,7 +10,7 @@ use Rattle.judgement.proofs.Bounds.{tags-bound, place-bound}
 use Rattle.judgement.proofs.findings.require.Statement.{statement}
 use Rattle.judgement.proofs.findings.require.Tie as tie
 
-tags-found : (v : List ℕ) {l : ListAt} → l ≡ requireAt v → record { good = l .good; start = l .first; len = l .count } ≡ finding [] 14 v
+tags-found : (v : List ℕ) {l : ListAt} → l ≡ requireAt v → record { good = l .good; schemes = 0; start = l .first; len = l .count } ≡ finding [] 14 v
 unfolding finding
 tags-found v e = rw e
 

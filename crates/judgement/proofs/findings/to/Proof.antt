@@ -9,7 +9,7 @@ use Rattle.judgement.specs.Tallies.{finding}
 use Rattle.judgement.proofs.findings.to.Statement.{statement}
 use Rattle.judgement.proofs.findings.to.Tie as tie
 
-to-found : (v : List ℕ) {p : PartyAt} → p ≡ party v → record { good = p .good; start = 0; len = p .len } ≡ finding [] 4 v
+to-found : (v : List ℕ) {p : PartyAt} → p ≡ party v → record { good = p .good; schemes = 0; start = 0; len = p .len } ≡ finding [] 4 v
 unfolding finding
 to-found v e = rw e
 

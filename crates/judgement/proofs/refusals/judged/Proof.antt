@@ -24,7 +24,7 @@ whole : (h : Message) (silent : Bool) (before kept : ℕ) (r : Refusal) (t : Tal
       body = n;
       withheld = not (eqb (t .withheld) 0);
       tag = t .tag;
-      number = t .number;
+      caller = t .caller;
     }
     ≡ judgedFrom h silent before kept r t rest
 unfolding judgedFrom

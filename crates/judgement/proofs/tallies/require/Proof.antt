@@ -14,6 +14,7 @@ require-is : (t : Tally) (f : Finding) {k l : ℕ} → k ≡ t .tags + f .len
     → l ≡ orElse (t .lacking) (cond (eqb (f .start) 0) 0 (t .tags + f .start))
     → record {
       seen = t .seen;
+      schemes = t .schemes;
       again = t .again;
       malformed = t .malformed;
       hops = t .hops;
@@ -23,7 +24,7 @@ require-is : (t : Tally) (f : Finding) {k l : ℕ} → k ≡ t .tags + f .len
       tags = k;
       lacking = l;
       tag = t .tag;
-      number = t .number;
+      caller = t .caller;
     }
     ≡ required t f
 unfolding required

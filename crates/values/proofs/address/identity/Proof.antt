@@ -1,43 +1,33 @@
--- One law for each `return`, by the tests of `isIdentity`: no address, no number in it, nothing after it. The number stands behind the four bytes of the scheme.
+-- One law for each `return`: no address, no number in it, a number, which stands behind the four bytes of the scheme.
 use mathlib.Core.Path.{_≡_}
-use mathlib.Core.Bool.{Bool, true, false, not, _&&_, and-false}
+use mathlib.Core.Bool.{Bool, true, false, not}
 use mathlib.Core.List.{List}
 use Prim.Native.Nat.{ℕ, _+_, _<_, _≤_}
 use native.Mathlib.Omega.{arith}
-use lib.Dec.{eqb}
-use lib.ListN.{length, take, drop}
-use borrow.Author.Needs.{needs}
-use borrow.Author.Tests.{eq-eqb, ne-eqb, not-true, not-false}
+use lib.ListN.{take, drop}
+use borrow.Author.Tests.{not-true, not-false}
 use Rattle.sip.specs.declared.AddressAt.{AddressAt}
-use Rattle.sip.specs.Values.{address, personSize, isGlobal, identity, isIdentity}
-use Rattle.sip.specs.Readings.{noSpan}
-use Rattle.values.specs.Answers.{identityAt}
+use Rattle.sip.specs.Values.{address, personSize, isGlobal, identity, noIdentity}
 use Rattle.values.proofs.Within.{is-zero, not-zero}
 use Rattle.values.proofs.Addresses.{person-at, fits}
+use borrow.Author.Needs.{needs}
 use Rattle.values.proofs.address.identity.Statement.{statement}
 use Rattle.values.proofs.address.identity.Tie as tie
 
-module _ (v : List ℕ) {a : AddressAt} (ha : a ≡ address v) where
-  none : a .size < 1 → noSpan ≡ identityAt v
-  unfolding identityAt isIdentity
+module _ (s : List ℕ) {a : AddressAt} (ha : a ≡ address s) where
+  none : a .size < 1 → noIdentity ≡ identity s
+  unfolding identity
   none z = rw (← ha, is-zero (a .size) z)
 
-  module _ (m : 1 ≤ a .size) {k : ℕ} (hk : k ≡ a .at + 4) {n : ℕ} (hn : n ≡ personSize (a .uri)) {f : List ℕ} (hf : f ≡ take n (drop k v)) {b : Bool} (hb : b ≡ isGlobal f) where
-    is : isIdentity v ≡ (eqb (a .size) (length v) && b)
-    unfolding isIdentity identity
-    is = rw (← ha, not-zero (a .size) m, person-at (a .uri) (a .at) v, ← hk, ← hn, ← hf, ← hb)
+  module _ (m : 1 ≤ a .size) {n : ℕ} (hn : n ≡ personSize (a .uri)) where
+    module _ {f : List ℕ} (hf : f ≡ take n (drop (a .at + 4) s)) {b : Bool} (hb : b ≡ isGlobal f) where
+      no-number : not b ≡ true → noIdentity ≡ identity s
+      unfolding identity
+      no-number y = rw (← ha, not-zero (a .size) m, person-at (a .uri) (a .at) s, ← hn, ← hf, ← hb, not-true b y)
 
-    no-number : not b ≡ true → noSpan ≡ identityAt v
-    unfolding identityAt
-    no-number y = rw (is, not-true b y, and-false (eqb (a .size) (length v)))
-
-    whole : not b ≡ false → a .size ≡ length v → record { start = k; len = n } ≡ identityAt v
-    unfolding identityAt
-    whole y z = rw (is, not-false b y, eq-eqb (a .size) (length v) z, ← ha, hk, hn)
-
-    more : (a .size ≡ length v → ⊥) → noSpan ≡ identityAt v
-    unfolding identityAt
-    more z = rw (is, ne-eqb (a .size) (length v) z)
+      found : not b ≡ false → record { size = a .size; tel = a .uri .tel; start = a .at + 4; len = n } ≡ identity s
+      unfolding identity
+      found y = rw (← ha, not-zero (a .size) m, person-at (a .uri) (a .at) s, ← hn, ← hf, ← hb, not-false b y)
 
 address-requires : tie.Need-address-requires
 address-requires c κs = search needs
@@ -61,10 +51,7 @@ returns-2 : tie.Need-returns-2
 returns-2 c = search (no-number, arith)
 
 returns-3 : tie.Need-returns-3
-returns-3 c = search (whole, fits, arith)
-
-returns-4 : tie.Need-returns-4
-returns-4 c = search (more, arith)
+returns-3 c = search (found, fits, arith)
 
 pub identity-spec : {M : Type 1} → statement M
 identity-spec =
@@ -77,5 +64,4 @@ identity-spec =
     part-requires
     global-requires
     returns-2
-    returns-3
-    returns-4)
+    returns-3)
