@@ -1,4 +1,4 @@
-//! "Values that are read", the item Address, and P-Asserted-Identity, which is made of one.
+//! "Values that are read", the item Address.
 
 use crate::classes::{after_blanks, is_blank, is_token, is_value, same_in_any_case, span};
 use crate::uri::{self, Uri};
@@ -35,25 +35,20 @@ pub fn address(value: &[u8]) -> Option<Address<'_>> {
     }
 }
 
-/// "an address without parameters after it", its number in the full form: start and length in
-/// the value of the digits with `+`. They stand right after the four bytes of `sip:` or `tel:`.
-pub fn asserted_number(value: &[u8]) -> Option<(usize, usize)> {
-    let read = any_address(value)?;
-    let number = read.uri.dialled();
-    if read.parameters == 0 && uri::is_full_number(number) {
-        Some((read.uri_start + 4, number.len()))
-    } else {
-        None
-    }
-}
-
 /// Either form of address, then any number of parameters to the end.
 fn any_address(value: &[u8]) -> Option<Address<'_>> {
-    if let Some((uri_start, uri, rest)) = in_brackets(value) {
-        return parameters(uri_start, uri, rest);
+    let (uri_start, uri, rest) = without_parameters(value)?;
+    parameters(uri_start, uri, rest)
+}
+
+/// Either form of address at the front of the text, without parameters after it: the place of its URI, its URI, and what follows. The text
+/// starts with no space or tab.
+pub fn without_parameters(text: &[u8]) -> Option<(usize, Uri<'_>, &[u8])> {
+    if let Some(read) = in_brackets(text) {
+        return Some(read);
     }
-    let (uri, rest) = uri::without_tail(value)?;
-    parameters(0, uri, rest)
+    let (uri, rest) = uri::without_tail(text)?;
+    Some((0, uri, rest))
 }
 
 /// "an optional display name, `<`, URI, `>`". No URI holds a `>`, so the first one closes it.
@@ -65,8 +60,8 @@ fn in_brackets(value: &[u8]) -> Option<(usize, Uri<'_>, &[u8])> {
     Some((uri_start, uri::whole(&inside[..close])?, &inside[close + 1..]))
 }
 
-/// "a quoted string, or tokens with spaces or tabs between, then any spaces or tabs". A canonical
-/// value never starts with a space or tab, so token bytes and blanks up to `<` are such tokens.
+/// "a quoted string, or tokens with spaces or tabs between, then any spaces or tabs". An address
+/// never starts with a space or tab, so token bytes and blanks up to `<` are such tokens.
 fn after_display_name(value: &[u8]) -> Option<&[u8]> {
     if value.first() == Some(&b'"') {
         let (_, rest) = quoted_string(value)?;

@@ -1,5 +1,6 @@
 //! "Refusal numbers, first that applies": reasons 1 to 5, and those that requests and responses share, one small question after another.
 
+use crate::identity::{self, Identity};
 use crate::lines::{self, Canonical, Lines};
 use crate::profile::{self, Column, ROWS};
 use crate::start::Start;
@@ -118,14 +119,29 @@ pub fn repeats(fields: &[Kept]) -> Result<(), Found> {
     Ok(())
 }
 
-/// Reason 10: "a value malformed"; detail the number "of the first malformed one".
+/// Reason 10: "a value malformed"; detail the number "of the first malformed one". CR 6: "a third identity, or two of one scheme, is 10
+/// with detail 15 at the field that brings it".
 pub fn malformed(fields: &[Kept], method: &[u8]) -> Result<(), Found> {
-    for field in fields {
-        if !values::is_well_formed(field.number, &field.value.bytes, method) {
+    for (place, field) in fields.iter().enumerate() {
+        let by_itself = values::is_well_formed(field.number, &field.value.bytes, method);
+        let with_earlier = field.number != 15 || identity::are_allowed(&asserted(&fields[..=place]));
+        if !by_itself || !with_earlier {
             return Err(found(10, field.number));
         }
     }
     Ok(())
+}
+
+/// The identities of all P-Asserted-Identity fields in message order, the start of each counted in the message. Digits hold no fold, so
+/// they stand there in one piece. A malformed field adds none.
+pub fn asserted(fields: &[Kept]) -> Vec<Identity> {
+    let mut all = Vec::new();
+    for field in fields.iter().filter(|field| field.number == 15) {
+        for identity in identity::identities(&field.value.bytes).unwrap_or_default() {
+            all.push(Identity { start: field.value.places[identity.start], ..identity });
+        }
+    }
+    all
 }
 
 /// Reason 11: "Content-Length exceeds the bytes there"; else the body after cutting.

@@ -24,6 +24,7 @@ pub mod address;
 pub mod causes;
 pub mod classes;
 pub mod drafts;
+pub mod identity;
 pub mod judge;
 pub mod lines;
 pub mod output;

@@ -14,7 +14,7 @@ pub fn message(passed: &Passed, side: u64) -> Vec<u8> {
     let mut out = passed.start.written();
     out.extend(b"\r\n");
     for field in &passed.fields {
-        // "P-Asserted-Identity is dropped"
+        // "P-Asserted-Identity is dropped"; CR 6: "all of them go".
         if !(hide && field.number == 15) {
             out.extend(line(field, passed, hide));
         }

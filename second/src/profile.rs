@@ -19,7 +19,7 @@ const fn row(number: u64, name: Text, compact: Text, requests: Text, responses: 
     Row { number, name, compact, requests, responses, repeats }
 }
 
-/// The 18 rows. An empty compact form means that there is none.
+/// The 18 rows. An empty compact form means that there is none. P-Asserted-Identity repeats since CR 6: "reason 9 never names 15".
 pub const ROWS: [Row; 18] = [
     row(1, "Via", "v", "MMMMMM", "MMM", true),
     row(2, "Max-Forwards", "", "MMMMMM", "---", false),
@@ -35,7 +35,7 @@ pub const ROWS: [Row; 18] = [
     row(12, "Allow", "", "MS-S-S", "S-S", true),
     row(13, "Supported", "k", "SS-S-S", "S-S", true),
     row(14, "Require", "", "SS-S-S", "S-S", true),
-    row(15, "P-Asserted-Identity", "", "MS----", "---", false),
+    row(15, "P-Asserted-Identity", "", "MS----", "---", true),
     row(16, "Privacy", "", "SS----", "---", false),
     row(17, "Accept", "", "SS---S", "S-S", true),
     row(18, "Record-Route", "", "SS----", "S-S", true),

@@ -1,11 +1,11 @@
 //! The page's section "Fields and the calling number".
 
-use crate::address;
 use crate::classes::is_space;
+use crate::identity::Identity;
 use crate::judge;
 use crate::lines::{self, Field};
 use crate::profile;
-use crate::uri;
+use crate::uri::{self, Scheme};
 use crate::Part;
 
 /// All fields with this number in a well shaped message; none at reason 2 to 5 or where the number
@@ -64,16 +64,14 @@ pub fn calling_number(message: &[u8], trunk: &[u8]) -> Part {
         Ok(passed) => passed,
         Err(_) => return EMPTY,
     };
-    match passed.first(15) {
+    match preferred(&judge::asserted(&passed.fields)) {
         None => Part { from_trunk: true, start: 0, length: trunk.len() },
-        Some(value) => asserted_part(&value.bytes, &value.places),
+        Some(identity) => Part { from_trunk: false, start: identity.start, length: identity.length },
     }
 }
 
-/// The digits as a part of the message. They hold no fold, so they stand there in one piece.
-fn asserted_part(bytes: &[u8], places: &[usize]) -> Part {
-    match address::asserted_number(bytes) {
-        None => EMPTY,
-        Some((start, length)) => Part { from_trunk: false, start: places[start], length },
-    }
+/// CR 6: "The calling number comes from the sip one .. in either order"; else from the only one.
+fn preferred(all: &[Identity]) -> Option<Identity> {
+    let sip = all.iter().find(|identity| identity.scheme == Scheme::Sip);
+    sip.or(all.first()).copied()
 }

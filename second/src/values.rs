@@ -3,8 +3,10 @@
 use crate::address;
 use crate::classes::{is_blank, is_digit, is_visible, is_whole_token, number_of_digits, same_in_any_case};
 use crate::classes::{span, trim_blanks};
+use crate::identity;
 
-/// Whether the canonical value of the field with this number is well formed.
+/// Whether the canonical value of the field with this number is well formed by itself. What the P-Asserted-Identity fields of a message may
+/// be together is asked in `judge`.
 pub fn is_well_formed(number: u64, value: &[u8], method: &[u8]) -> bool {
     match number {
         1 | 7 | 9 | 10 | 11 | 18 => !value.is_empty(),
@@ -15,7 +17,7 @@ pub fn is_well_formed(number: u64, value: &[u8], method: &[u8]) -> bool {
         6 => is_cseq(value, method),
         8 => content_length(value).is_some(),
         14 => require(value).is_some(),
-        15 => address::asserted_number(value).is_some(),
+        15 => identity::identities(value).is_some_and(|all| identity::are_allowed(&all)),
         16 => privacy(value).is_some(),
         // "Supported, Accept and Allow may be empty", and nothing else is said of them.
         _ => true,

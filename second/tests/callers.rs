@@ -165,7 +165,7 @@ fn any_two_callers_are_refused_alike() {
         (line, "INVITE http:x SIP", [7, 416, 0, 0, 0]),
         (line, "INVITE sip: SIP", [8, 400, 0, 0, 0]),
         ("t:", "From:{from}\nt:", [9, 400, 3, 0, 0]),
-        ("v:", "p-asserted-identity:{identity}\nv:", [9, 400, 15, 0, 0]),
+        ("P-Asserted-Identity:{identity}", "P-Asserted-Identity: <tel:+1234567>\nP-Asserted-Identity: tel:+1234568", [10, 400, 15, 0, 0]),
         ("v:", "privacy: user\nv:", [9, 400, 16, 0, 0]),
         ("Max-Forwards: 70", "Max-Forwards: 256", [10, 400, 2, 0, 0]),
         ("t: <", "t: <<", [10, 400, 4, 0, 0]),
@@ -248,6 +248,94 @@ fn up_to_8192_bytes_the_length_does_not_show() {
         // One byte more is the premise broken: the length alone decides.
         assert_eq!(numbers(&of_length(8193, front, piece, back)), [2, 0, 0, 0]);
     }
+}
+
+/// Identities that CR 6 allows, in one field: one or two, in either order.
+const ONE_FIELD: [&str; 8] = [
+    "<sip:+33187654321@relay.example>", "tel:+33611111111", "<sip:+33187654321@h>, <tel:+33187654321>", "tel:+1234567,sip:+12345678@h:5060", "\"Doe, J\" <TEL:+33187654322>\t,\tA B <sip:+33187654322@h;user=phone>",
+    "\n \"A\n B\" <sip:+123456789012345@h>\n ,\n\t<tel:+1234567>\n ", "SIP:+33187654323@h ,tel:+33187654324", "\", <sip:x>\"<tel:+33187654325>,\"\\\"\" <sip:+33187654325@h>",
+];
+
+/// The same in two fields.
+const TWO_FIELDS: [[&str; 2]; 6] = [
+    ["<sip:+33187654321@relay.example>", "<tel:+33187654321>"], ["<tel:+33187654321>", "<sip:+33611111111@relay.example>"], ["sip:+1234567@h", "\n TEL:+123456789012345\n "],
+    ["\"Doe, J\" <tel:+33187654322>", "SIP:+33187654322@h:5060"], ["A B\t<sip:+33187654323@h;x=y>", "\"\\\"\"<tel:+33187654323>"], ["tel:+33187654324", "\"A\n B\"\n <sip:+33187654324@h>"],
+];
+
+/// The text with each of these lists of identities, one for each field, and every third From.
+fn asserting<const FIELDS: usize>(text: &str, lists: &[[&str; FIELDS]]) -> Vec<Vec<u8>> {
+    let with = |list: &[&str; FIELDS], from: &str| {
+        let text = list.iter().fold(text.to_string(), |text, identity| text.replacen("{identity}", identity, 1));
+        message(&text, from, "")
+    };
+    lists.iter().flat_map(|list| FROMS.iter().step_by(3).map(move |(from, _)| with(list, from))).collect()
+}
+
+/// All of them have one answer and buffer on side 1, whatever the room; the buffers on side 0 are counted.
+fn all_alike(messages: &[Vec<u8>]) -> ([u64; 5], usize) {
+    let need = run(&messages[0], 1).0[4] as usize;
+    for room in [9216, need, need.saturating_sub(1), 0] {
+        let first = run_in(&messages[0], 1, room);
+        for message in messages {
+            assert!(run_in(message, 1, room) == first, "room {room}:\n{}", String::from_utf8_lossy(message));
+        }
+    }
+    let shown: BTreeSet<Vec<u8>> = messages.iter().map(|message| run(message, 0).1).collect();
+    (run(&messages[0], 1).0, shown.len())
+}
+
+/// The text with a second P-Asserted-Identity field at this place of its header.
+fn with_second_field(text: &str, before: &str) -> String {
+    assert!(text.contains(before));
+    text.replacen(before, &format!("p-asserted-identity :{{identity}}\n{before}"), 1)
+}
+
+#[test]
+fn identities_may_differ_in_number_order_and_scheme() {
+    for (text, hidden) in [(INITIAL, HIDDEN_INITIAL), (LATER, HIDDEN_LATER)] {
+        let need = crlf(hidden).len() as u64;
+        let one = asserting(text, &ONE_FIELD.map(|identity| [identity]));
+        assert_eq!(all_alike(&one), ([0, 0, 0, 0, need], one.len()));
+        for before in ["v:", "P-Asserted-Identity:", "Privacy:", "l:"] {
+            let two = asserting(&with_second_field(text, before), &TWO_FIELDS);
+            assert_eq!(all_alike(&two), ([0, 0, 0, 0, need], two.len()), "{before}");
+            assert!(run(&two[0], 1).1 == crlf(hidden));
+        }
+    }
+}
+
+#[test]
+fn with_two_identities_refused_alike() {
+    for (old, new, numbers) in [
+        ("t: <", "t: <<", [10, 400, 4, 0, 0]),
+        ("l: 0", "l: 1", [11, 400, 0, 0, 0]),
+        ("v: x\n", "", [12, 400, 1, 1, 0]),
+        ("Max-Forwards: 70", "Max-Forwards: 0", [13, 483, 0, 0, 0]),
+        ("m:", "Require: x\nm:", [14, 420, 1, 0, 0]),
+        ("i:", "Privacy: none\ni:", [9, 400, 16, 0, 0]),
+    ] {
+        let text = INITIAL.replacen(old, new, 1);
+        assert_eq!(all_alike(&asserting(&text, &ONE_FIELD.map(|identity| [identity]))).0, numbers, "{new}");
+        assert_eq!(all_alike(&asserting(&with_second_field(&text, "l:"), &TWO_FIELDS)).0, numbers, "{new}");
+    }
+}
+
+#[test]
+fn the_same_identities_need_not_be_allowed() {
+    let lists = [["tel:+1234567", "tel:+1234567"], ["", ""], ["sip:+1234567@h", ","], ["sip:+1234567@h,tel:+1234567", "tel:+1234567"]];
+    for list in lists {
+        assert_eq!(all_alike(&asserting(&with_second_field(INITIAL, "i:"), &[list])).0, [10, 400, 15, 0, 0], "{list:?}");
+    }
+    // Three fields are never allowed, since each has an identity or is malformed.
+    let three = with_second_field(&with_second_field(INITIAL, "i:"), "l:");
+    assert_eq!(all_alike(&asserting(&three, &[["sip:+1234567@h", "tel:+1234567", "tel:+1234568"]])).0, [10, 400, 15, 0, 0]);
+}
+
+#[test]
+fn identities_that_are_not_allowed_may_show() {
+    let text = with_second_field(INITIAL, "l:");
+    let answers = [["sip:+1234567@h", "tel:+1234567"], ["tel:+1234568", "tel:+1234567"]].map(|list| numbers(&asserting(&text, &[list])[0]));
+    assert_eq!(answers, [[0, 0, 0, 0], [10, 400, 15, 0]]);
 }
 
 #[test]

@@ -57,7 +57,7 @@ const VALUES: [(&str, &[&str]); 18] = [
     ("Allow", &["INVITE", ""]),
     ("Supported", &["timer", ""]),
     ("Require", &["timer", "TIMER,100rel", "100rel, x", "y", ","]),
-    ("P-Asserted-Identity", &["<sip:+1234567@h>", "tel:+1234567", "<sip:1@h>"]),
+    ("P-Asserted-Identity", &["<sip:+1234567@h>", "tel:+1234567", "tel:+1234567\r\n , <sip:+1234567@h>", "<sip:1@h>"]),
     ("Privacy", &["user", "id", "none", "Header;none", ";"]),
     ("Reason", &["x", "y", ""]),
     ("Accept", &["a/b", ""]),
@@ -74,7 +74,9 @@ fn random_fields(dice: &mut Dice, method: &str) -> Vec<Whole> {
     let mut fields = Vec::new();
     for (place, (name, list)) in VALUES.into_iter().enumerate() {
         let wanted = place < 6 || ["Contact", "Allow", "P-Asserted-Identity"].contains(&name);
-        let times = if dice.one_in(100) { 2 } else if wanted { usize::from(!dice.one_in(60)) } else { dice.below(2) };
+        // Two identities may come in two fields (CR 6).
+        let twice = if name == "P-Asserted-Identity" { 6 } else { 100 };
+        let times = if dice.one_in(twice) { 2 } else if wanted { usize::from(!dice.one_in(60)) } else { dice.below(2) };
         for _ in 0..times {
             let text = format!("{}:{}{}\r\n", dice.pick(&["", " ", "\t"]), dice.pick(&["", " "]), value(dice, list, method));
             fields.insert(dice.below(fields.len() + 1), (name.to_string(), text.into_bytes()));

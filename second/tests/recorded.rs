@@ -21,7 +21,7 @@ fn details(answers: &[[u64; 5]], reason: u64) -> BTreeSet<u64> {
 #[test]
 fn every_reason_and_detail_is_there() {
     let all = cases();
-    assert!(all.len() >= 14_300);
+    assert!(all.len() >= 14_900);
     let answers: Vec<[u64; 5]> = all.iter().map(answer).collect();
     for reason in 0..=17 {
         assert!(answers.iter().filter(|a| a[0] == reason).count() >= 10, "reason {reason}");

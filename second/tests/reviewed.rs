@@ -1,7 +1,7 @@
 //! The edge calls of second/reviewed are answered as their writers say, in every number and every byte of the buffer, and so are the causes
 //! of second/reviewed/causes.txt.
 use second::causes::Answer;
-use second::recorded::reviewed::{calls, files};
+use second::recorded::reviewed::{calls, files, Reviewed};
 use second::{screen, status_of_cause};
 use std::collections::BTreeSet;
 
@@ -25,17 +25,25 @@ fn every_call_is_answered_as_written() {
 fn every_reason_is_among_them() {
     let reasons: BTreeSet<u64> = calls().iter().map(|call| call.answer[0]).collect();
     assert_eq!(reasons, (0..=17).collect());
-    assert_eq!(files().map(|calls| calls.len()), [96, 124, 81, 80]);
+    assert_eq!(files().map(|calls| calls.len()), [96, 124, 81, 80, 111]);
     let responses = calls().into_iter().filter(|call| call.case.message.starts_with(b"SIP/2.0 "));
     let reasons: BTreeSet<u64> = responses.map(|call| call.answer[0]).collect();
     assert_eq!(reasons, BTreeSet::from([0, 1, 2, 3, 4, 5, 6, 9, 10, 11, 12, 16, 17]));
 }
 
-/// CR 5: the answers of a pair inside are the same, and those of a pair outside are not, as its writer says.
+/// CR 5: the answers of a pair inside are the same, and those of a pair outside are not, as its writer says. In identities.txt the pairs
+/// stand behind 91 single calls.
 #[test]
 fn a_pair_has_one_answer_exactly_if_it_is_inside() {
-    let [.., callers] = files();
-    for (number, pair) in callers.chunks(2).enumerate() {
+    let [.., callers, identities] = files();
+    assert!(identities[..91].iter().all(|call| !call.name.starts_with("pair ")));
+    assert_eq!([&callers, &identities[91..]].map(pairs_inside), [26, 6]);
+}
+
+/// How many pairs are inside.
+fn pairs_inside(calls: &[Reviewed]) -> usize {
+    let mut all = 0;
+    for (number, pair) in calls.chunks(2).enumerate() {
         let inside = pair[0].name.starts_with(&format!("pair {:02} inside first", number + 1));
         let kind = if inside { "inside" } else { "outside" };
         for (call, place) in pair.iter().zip(["first", "second"]) {
@@ -45,7 +53,9 @@ fn a_pair_has_one_answer_exactly_if_it_is_inside() {
         assert_ne!(pair[0].case.message, pair[1].case.message, "{}", pair[0].name);
         let answers = pair.iter().map(|call| (call.answer, &call.output)).collect::<BTreeSet<_>>();
         assert_eq!(answers.len(), if inside { 1 } else { 2 }, "{}", pair[0].name);
+        all += usize::from(inside);
     }
+    all
 }
 
 /// The cause of each line and its answer: "CAUSE STATUS ROW REFUSAL, in decimal, parted by single spaces", "Lines with # are notes".

@@ -7,7 +7,8 @@ reaches the other end, and nothing there where the message is refused; an answer
 is 0. Only what has come through goes on to the sipp behind it.
 
 Who is hidden is also judged here, from the pages and not by `second`, so that a rule that both have wrong is found. An INVITE out to side 1
-whose Privacy holds `header`, `user` or `id` has an anonymous From and no P-Asserted-Identity; every other INVITE has both as they came.
+whose Privacy holds `header`, `user` or `id` has an anonymous From and no P-Asserted-Identity, however many came; every other INVITE has all
+of them as they came.
 
 The regulator's quarter is counted here too: what came through is accepted, all else refused, and this script itself reads the lines of each
 message, and so says whether it is unread (with its reason, 2 to 5), a relay caller's or another's; the reasons from 6 on are those that
@@ -36,10 +37,11 @@ MASKED = b'"Anonymous" <sip:anonymous@anonymous.invalid>;tag='
 HIDING = {b"header", b"user", b"id"}    # tokens of Privacy
 COMPACT = {b"From": b"f"}               # compact forms of the names that are looked for
 
-# What the sipps must have brought about, on either side: kinds accepted, replies, and numbers of what is dropped without one.
+# What the sipps must have brought about, on either side: kinds accepted, replies, numbers of what has one, and of what is dropped without.
 ACCEPTED = ["INVITE", "INVITE (later)", "ACK", "BYE", "CANCEL", "OPTIONS"]
 ACCEPTED += ["180 to INVITE", "200 to INVITE", "487 to INVITE", "200 to BYE", "200 to CANCEL", "200 to OPTIONS"]
 REPLIES = [400, 405, 416, 420, 483, 484]
+ANSWERED = {"INVITE": [(10, 400, 15, 0)]}    # among the replies: a third identity
 DROPPED = {"200": [(3, 0, 0, 0), (6, 0, 0, 0), (11, 0, 0, 0), (12, 0, 7, 1)], "700": [(17, 0, 0, 0)], "ACK": [(12, 0, 2, 1)]}
 
 
@@ -204,6 +206,8 @@ class Watch:
         outcomes = {asked: "hidden" if self.far.side == 1 else "as it came" for asked in WITHHELD}
         outcomes[OPEN] = "as it came"
         invites = [outcome_line(what, asked, outcomes[asked]) for what in ("INVITE", "INVITE (later)") for asked in outcomes]
+        gone = [True, False] if self.far.side == 1 else [False]
+        invites += [identities_line(what, fields, outcome) for what, fields in TWO for outcome in gone]
         return SHOWN + COUNTED + invites + [outcome_line(what, asked, "as it came") for what, asked in ELSEWHERE]
 
     def lacking(self):
@@ -211,6 +215,7 @@ class Watch:
         nothing = (0, 0, 0, 0)
         lacking = [kind for kind in ACCEPTED if (kind, nothing) not in self.live]
         lacking += [f"reply {reply}" for reply in REPLIES if not any(numbers[1] == reply for _, numbers in self.live)]
+        lacking += [f"{kind} answered: {numbers}" for kind, every in ANSWERED.items() for numbers in every if (kind, numbers) not in self.live]
         lacking += [f"{kind} dropped: {numbers}" for kind, every in DROPPED.items() for numbers in every if (kind, numbers) not in self.live]
         return lacking + [what for what in self.to_show() if not self.shown[what]]
 
@@ -235,6 +240,7 @@ TEXT = rb"[\t -~\x80-\xff]"
 VERSION = rb"[Ss][Ii][Pp]/2\.0"
 START = re.compile(rb"(?:%b{1,32} [!-~]{1,256} %b|%b [0-9]{3} %b*)\r\n" % (TOKEN, VERSION, VERSION, TEXT))
 FIELD = re.compile(rb"(%b+)[ \t]*:(?:%b|\r\n(?=[ \t]))*\r\n(?![ \t])" % (TOKEN, TEXT))
+QUOTED = rb'"(?:\\.|[^"\\])*"'
 LINES = ["relay", "other", "unread"]    # of the report
 RELAY = b"x-relay-mode"
 
@@ -264,13 +270,16 @@ def report_line(message):
     return "unread" if reason else "relay" if relay else "other", reason, names
 
 
-def value(message, name):
-    """The canonical value of the first field with this name, in any letter case, or From's compact one; or nothing."""
+def values(message, name):
+    """The canonical values of all fields with this name, in any letter case, or From's compact one."""
     fields = re.sub(rb"[ \t]*(\r\n[ \t]+)+", b" ", message.split(b"\r\n\r\n")[0]).split(b"\r\n")[1:]
-    for found, _, rest in (field.partition(b":") for field in fields):
-        if found.rstrip(b" \t").lower() in (name.lower(), COMPACT.get(name)):
-            return rest.strip(b" \t")
-    return b""
+    names = (name.lower(), COMPACT.get(name))
+    return tuple(rest.strip(b" \t") for found, _, rest in (field.partition(b":") for field in fields) if found.rstrip(b" \t").lower() in names)
+
+
+def value(message, name):
+    """The first of them, or nothing."""
+    return (values(message, name) or (b"",))[0]
 
 
 def privacy(message):
@@ -280,21 +289,26 @@ def privacy(message):
 
 def tag(address):
     """The value of the tag parameter: the last one outside quotes and angle brackets, as a bare URI may have the same text before."""
-    bare = re.sub(rb'"(\\.|[^"\\])*"|<[^>]*>', b"", address)
+    bare = re.sub(QUOTED + rb"|<[^>]*>", b"", address)
     return b"".join(re.findall(rb"(?i);[ \t]*tag[ \t]*=[ \t]*([^ \t;]+)", bare)[-1:])
 
 
 def caller(message):
-    return value(message, b"From"), value(message, b"P-Asserted-Identity")
+    return value(message, b"From"), values(message, b"P-Asserted-Identity")
 
 
 def masked(message):
-    return MASKED + tag(value(message, b"From")), b""
+    return MASKED + tag(value(message, b"From")), ()
 
 
 def unmasked(message):
     """The caller as it came. Outside INVITE, Privacy and P-Asserted-Identity are ignored."""
-    return caller(message) if message.startswith(b"INVITE ") else (value(message, b"From"), b"")
+    return caller(message) if message.startswith(b"INVITE ") else (value(message, b"From"), ())
+
+
+def identities(message):
+    """How many identities each P-Asserted-Identity field has: what commas part, outside quotes."""
+    return tuple(len(re.sub(QUOTED, b"", text).split(b",")) for text in values(message, b"P-Asserted-Identity"))
 
 
 def due(message, side):
@@ -331,6 +345,9 @@ OPEN = "none;identity"
 # Other requests that must have come, with the Privacy that would withhold the caller of an INVITE.
 ELSEWHERE = [(what, asked) for what in ("ACK", "BYE") for asked in WITHHELD] + [("CANCEL", "id"), ("OPTIONS", "id")]
 
+# INVITEs with two identities that must have come, by how many each of their fields has.
+TWO = [("INVITE", (2,)), ("INVITE (later)", (1, 1))]
+
 
 # Where messages must have been counted, by how X-Relay-Mode stands in them.
 PLAIN, CASED, TWICE = "X-Relay-Mode", "X-Relay-Mode in other letters", "X-Relay-Mode twice"
@@ -354,8 +371,15 @@ def outcome_line(what, asked, outcome):
     return f"{what} with Privacy: {asked}, the caller {outcome}"
 
 
+def identities_line(what, fields, gone):
+    where = "in one field" if len(fields) == 1 else "in two fields"
+    return f"{what} with two identities {where}, {'both gone' if gone else 'both there'}"
+
+
 def shown(what, message, outgoing):
     asked = b";".join(privacy(message)).decode("latin-1")
+    if (what, identities(message)) in TWO:
+        yield identities_line(what, identities(message), not identities(outgoing))
     if not is_response(message):
         if asked:
             outcomes = {unmasked(message): "as it came", masked(message): "hidden"}

@@ -6,6 +6,7 @@
 
 #define URI "sip:+33123456789@b.example"
 #define CALLER "<sip:+33187654321@a.example>"
+#define TEL "<tel:+33187654321>"
 
 struct message *messages;
 size_t message_count;
@@ -148,10 +149,15 @@ static const struct value values[] = {
     { "To", "<" URI ">", "\r\n ;a=b", ";tag", 10, 10 },
     { "P-Asserted-Identity", "\"", "a\r\n ", "\" " CALLER, 0, 0 },
     { "P-Asserted-Identity", "\"", "\\\"", "\" " CALLER, 0, 0 },
-    { "P-Asserted-Identity", "", "a\r\n ", "<tel:+33187654321>", 0, 0 },
+    { "P-Asserted-Identity", "", "a\r\n ", TEL, 0, 0 },
     { "P-Asserted-Identity", "", "\r\n ", CALLER, 0, 0 },
     { "P-Asserted-Identity", "sip:+33187654321@a.example", "\r\n ", "", 0, 0 },
     { "P-Asserted-Identity", CALLER, "\r\n ;a", "", 10, 0 },
+    { "P-Asserted-Identity", TEL, "\r\n ", "," CALLER, 0, 0 },
+    { "P-Asserted-Identity", TEL ",", "\r\n ", "sip:+33187654321@a.example", 0, 0 },
+    { "P-Asserted-Identity", TEL ",\"", "a,\r\n ", "\" " CALLER, 0, 0 },
+    { "P-Asserted-Identity", "\"", "\\\"", "\" " CALLER " ,\ttel:+33187654321", 0, 0 },
+    { "P-Asserted-Identity", CALLER "," TEL, "," TEL, "", 10, 0 },
     { "Privacy", "none", "\r\n ;x", ";id", 0, 0 },
     { "Privacy", "none", "\r\n ;headers", ";Header", 0, 0 },
     { "Privacy", "none", ";x", "\r\n ;\r\n HEADER", 0, 0 },
@@ -281,6 +287,14 @@ static void make_answered(const char *name, const char *start, const char *field
     change(&response, told, start, field, line, reason);
 }
 
+static void make_identities(void)
+{
+    static const char field[] = "P-Asserted-Identity";
+
+    make_changed("two identities", START, field, "P-Asserted-Identity: " TEL "\r\nP-Asserted-Identity:\r\n " CALLER "\r\n", 0);
+    make_changed("two identities of one scheme", START, field, "P-Asserted-Identity: " CALLER "\r\nP-Asserted-Identity: " CALLER "\r\n", 10);
+}
+
 static void make_refusals(void)
 {
     static const char *const methods[] = { "ACK", "BYE", "CANCEL", "OPTIONS" };
@@ -395,6 +409,7 @@ void make_messages(void)
     keep("the call", 0);
     make_values(&request);
     make_fields(&request);
+    make_identities();
     make_refusals();
     put_whole(&response);
     put("\r\n");

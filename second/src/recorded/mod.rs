@@ -4,9 +4,11 @@
 //! the length of the message (high byte first), then the message. `second/regenerate` stores both in crates/vectors of the repository.
 
 pub mod callers;
+pub mod calling;
 mod columns;
 mod edges;
 pub mod history;
+pub mod identities;
 mod outside;
 mod outside_responses;
 mod privacy;
@@ -48,8 +50,9 @@ pub fn cases() -> Vec<Case> {
     let mut all: Vec<Case> = Vec::new();
     let mut seen = std::collections::HashSet::new();
     let from_others = [outside::cases(), outside_responses::cases(), reviewed::cases()];
-    let own = [columns::cases(), edges::cases(), sizes::cases(), strewn::cases(), responses::cases(), privacy::cases(), callers::cases()];
-    for group in from_others.into_iter().chain(own) {
+    let own = [columns::cases(), edges::cases(), sizes::cases(), strewn::cases(), responses::cases()];
+    let of_callers = [privacy::cases(), callers::cases(), identities::cases()];
+    for group in from_others.into_iter().chain(own).chain(of_callers) {
         for case in group {
             assert!(case.message.len() <= MOST && case.room <= ROOM, "a recorded case is too long");
             if seen.insert(case.encoded()) {

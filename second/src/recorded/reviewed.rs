@@ -1,13 +1,15 @@
 //! Edge calls that readers of the pages alone wrote, with the answers: second/reviewed/calls.txt, responses.txt for CR 1, privacy.txt
-//! for CR 2, callers.txt for CR 5, in which two calls that follow one another are a pair.
+//! for CR 2, callers.txt for CR 5, in which two calls that follow one another are a pair, and identities.txt for CR 6, which ends with such
+//! pairs.
 
 use super::Case;
 
-const FILES: [&str; 4] = [
+const FILES: [&str; 5] = [
     include_str!("../../reviewed/calls.txt"),
     include_str!("../../reviewed/responses.txt"),
     include_str!("../../reviewed/privacy.txt"),
     include_str!("../../reviewed/callers.txt"),
+    include_str!("../../reviewed/identities.txt"),
 ];
 
 /// A call and what its writer says of it: reason, reply, detail, missing count and length, and the outgoing message.
@@ -27,7 +29,7 @@ pub fn calls() -> Vec<Reviewed> {
 }
 
 /// Each call is a paragraph; the first one of a file says what it has.
-pub fn files() -> [Vec<Reviewed>; 4] {
+pub fn files() -> [Vec<Reviewed>; 5] {
     FILES.map(|file| file.split("\n\n").skip(1).map(call).collect())
 }
 

@@ -41,9 +41,10 @@ pub fn strewn(dice: &mut Dice, plain: &Draft) -> Draft {
     draft
 }
 
-/// A field that may or may not be listed, mostly one that the column lets repeat or ignores.
+/// A field that may or may not be listed, mostly one that the column lets repeat or ignores. Require and P-Asserted-Identity, which repeat
+/// too, have forms that none of the values here has.
 fn extra(dice: &mut Dice) -> Whole {
-    let repeating: Vec<&str> = ROWS.iter().filter(|row| row.repeats && row.number != 14).map(|row| row.name).collect();
+    let repeating: Vec<&str> = ROWS.iter().filter(|row| row.repeats && !matches!(row.number, 14 | 15)).map(|row| row.name).collect();
     let name = match dice.below(4) {
         0 => ROWS[dice.below(18)].name,
         1 => *dice.pick(&repeating),

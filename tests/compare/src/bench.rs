@@ -4,6 +4,7 @@ use crate::callers::Callers;
 use crate::counts::{Call, Counts, Kind, Met};
 use crate::differences::{escaped, same, same_bytes, within};
 use crate::guarded::{Against, Guarded};
+use crate::identities::Asserted;
 use crate::privacy::Asked;
 use crate::replay::Replay;
 use crate::watch::NOW;
@@ -48,6 +49,7 @@ impl Bench {
         same("screen", &library::with_null_pointers(), &second::screen(&[], 1, &mut []).numbers(), &[], "null pointers");
         causes::fixed(&mut self.counts);
         self.recorded();
+        self.reviewed_callings();
         for plain in [Draft::least(0), Draft::least(6)] {
             self.odd_bytes(&plain);
         }
@@ -63,8 +65,21 @@ impl Bench {
                 self.screen(&case.message, lent);
                 self.counts.call(Call::Recorded);
                 self.calling_with(&case.message, TRUNK, against);
-                self.count(&case.message, against, 6);
-                self.reading(&case.message, against, 6, 1);
+                for (field, place) in [(6, 1), (15, 1), (15, 2)] {
+                    self.count(&case.message, against, field);
+                    self.reading(&case.message, against, field, place);
+                }
+            }
+        }
+    }
+
+    /// The messages of second/reviewed/identities-calling.txt, each with its own trunk number. That the second implementation gives what their
+    /// writer says is a test of its own (second/tests/calling.rs).
+    fn reviewed_callings(&mut self) {
+        for case in second::recorded::calling::cases() {
+            for against in [Against::End, Against::Start] {
+                self.counts.call(Call::ReviewedCalling);
+                self.calling_with(&case.message, &case.trunk, against);
             }
         }
     }
@@ -107,6 +122,7 @@ impl Bench {
             [10, _, 16, ..] => self.counts.met(Met::MalformedPrivacy, Asked::of(&message).is_some_and(|asked| asked.mentions())),
             _ => {}
         }
+        self.asserted(&message, lent, numbers);
         self.readings(dice, &message, lent.against);
         self.calling(dice, &message, lent.against);
         self.replay.one(&mut self.counts, dice, &message, lent.side, lent.against);
@@ -167,6 +183,38 @@ impl Bench {
         self.counts.met(Met::ShownNone, !masked && asked.holds(b"none"));
         self.counts.met(Met::ShownLonger, !masked && asked.has_longer_or_shorter());
         self.counts.met(Met::ShownOther, !masked && asked.has_one_byte_other());
+    }
+
+    /// Counts what the identities of a message are.
+    fn asserted(&mut self, message: &[u8], lent: Lent, numbers: [u64; 5]) {
+        let Some(asserted) = Asserted::of(message) else { return };
+        let [reason, _, detail, ..] = numbers;
+        let invite = message.starts_with(b"INVITE ");
+        if invite && reason == 0 && asserted.are_two() {
+            self.two_identities(message, lent, numbers[4], asserted.in_one_field());
+        }
+        let (one_field, third, too_many) = (asserted.in_one_field(), asserted.are_more_than_two(), asserted.are_too_many());
+        let for_them = reason == 10 && detail == 15;
+        self.counts.met(Met::ThirdInOneField, for_them && too_many && third && one_field);
+        self.counts.met(Met::ThirdOverFields, for_them && too_many && third && !one_field);
+        self.counts.met(Met::SchemeInOneField, for_them && too_many && !third && one_field);
+        self.counts.met(Met::SchemeOverFields, for_them && too_many && !third && !one_field);
+        self.counts.met(Met::EmptyMember, for_them && asserted.has_empty_member());
+        self.counts.met(Met::OtherBeforeIdentities, invite && reason == 10 && detail != 15 && too_many);
+        self.counts.met(Met::AgainBeforeIdentities, invite && reason == 9 && too_many);
+        self.counts.met(Met::IgnoredIdentities, reason == 0 && too_many);
+    }
+
+    /// Holds what goes out of two identities to the request itself (CR 6): "When withheld on side 1, all of them go", else all are there.
+    fn two_identities(&mut self, message: &[u8], lent: Lent, length: u64, one_field: bool) {
+        let hidden = lent.side == 1 && Asked::of(message).is_some_and(|asked| asked.asks());
+        let out = &self.out.part(lent.room, lent.against)[..length as usize];
+        let wanted = if hidden { 0 } else { second::count(message, 15) };
+        same("screen, P-Asserted-Identity fields that go out", &identity_lines(out), &wanted, message, &format!("{lent:?}"));
+        self.counts.met(Met::TwoInOneField, one_field);
+        self.counts.met(Met::TwoInTwoFields, !one_field);
+        self.counts.met(Met::TwoHidden, hidden);
+        self.counts.met(Met::TwoShown, lent.side == 1 && !hidden);
     }
 
     /// A side, mostly 0 or 1, and a room.
@@ -308,17 +356,40 @@ impl Bench {
         let wanted = second::calling_number(message, trunk);
         let wanted = (u64::from(wanted.from_trunk), wanted.start, wanted.length);
         same("calling_number (from trunk, start, length)", &part, &wanted, message, &format!("trunk {}", escaped(trunk)));
+        if part.0 == 0 && part.2 > 0 {
+            self.called_by(message, part.1);
+        }
         let identity = if part.0 == 0 && part.2 > 0 { folded_length(message, 15) } else { 0 };
         self.counts.met(Met::FoldedIdentity, identity > 0);
         self.counts.met(Met::FoldedOver256, identity > 256);
         self.counts.met(Met::FoldedOver2000, identity > 2000);
         self.counts.met(Met::TrunkOfResponse, part.0 == 1 && message.starts_with(b"SIP/2.0 ") && second::count(message, 15) > 0);
     }
+
+    /// Counts which identity gave the calling number, and holds it to CR 6: it "comes from the sip one .. in either order".
+    fn called_by(&mut self, message: &[u8], start: usize) {
+        let Some(asserted) = Asserted::of(message) else { return };
+        let scheme = if asserted.has_sip() { "sip:" } else { "tel:" };
+        let before = String::from_utf8_lossy(&message[start - 4..start]).to_ascii_lowercase();
+        same("calling_number, the scheme before it", &before.as_str(), &scheme, message, "");
+        let behind = asserted.are_two() && asserted.starts_with_tel();
+        self.counts.met(Met::SipBehindTel, behind && asserted.in_one_field());
+        self.counts.met(Met::SipInSecondField, behind && !asserted.in_one_field());
+        self.counts.met(Met::SipBehindTelFolded, behind && asserted.in_one_field() && folded_length(message, 15) > 256);
+        self.counts.met(Met::TelAlone, !asserted.has_sip());
+    }
 }
 
 /// Every length with every place in it and every odd byte there.
 fn odd_places() -> impl Iterator<Item = (usize, usize, u8)> {
     LENGTHS.into_iter().flat_map(|length| (0..length).flat_map(move |place| messages::ODD_BYTES.map(|odd| (length, place, odd))))
+}
+
+/// How many lines of an outgoing header are P-Asserted-Identity.
+fn identity_lines(out: &[u8]) -> usize {
+    let end = out.windows(4).position(|part| part == b"\r\n\r\n").unwrap_or(out.len());
+    let line = b"\r\nP-Asserted-Identity: ";
+    out[..end].windows(line.len()).filter(|part| part == line).count()
 }
 
 /// The length of the first value of this number where a line break stands in it, else 0.

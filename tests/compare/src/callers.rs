@@ -4,8 +4,10 @@
 use crate::counts::{Counts, Met};
 use second::address::{self, Address};
 use second::drafts::{Draft, Whole};
+use second::identity::{self, Identity};
 use second::lines::{self, MOST_BYTES, MOST_FIELDS};
 use second::start::Start;
+use second::uri::Scheme;
 use second::values;
 
 /// Two messages that CR 5 takes.
@@ -23,7 +25,8 @@ struct Read<'a> {
 
 impl<'a> Callers<'a> {
     /// "two INVITEs .. both withheld, equal except for the values of P-Asserted-Identity and the part of From outside its tag parameter.
-    /// Both messages keep to 8,192 bytes and well-shaped fields; these two values are well formed with the same tag."
+    /// Both messages keep to 8,192 bytes and well-shaped fields; these two values are well formed with the same tag." CR 6: "over all
+    /// P-Asserted-Identity fields, with their number and places equal and the identities allowed here in both messages".
     pub fn of(one: &'a Draft, other: &'a Draft) -> Option<Callers<'a>> {
         let lengths = [one, other].map(|draft| draft.bytes().len());
         let kept = is_invite(&one.start) && lengths.iter().all(|&length| length <= MOST_BYTES);
@@ -34,8 +37,14 @@ impl<'a> Callers<'a> {
         }
         let callers = Callers { one: read(one)?, other: read(other)?, lengths };
         let alike = callers.one.iter().zip(&callers.other).all(|(one, other)| differ_in_the_caller_alone(one, other));
+        let alike = alike && (callers.have_the_same(15) || are_allowed(&callers.one) && are_allowed(&callers.other));
         let withheld = callers.one.iter().any(|read| read.field.number() == 16 && values::asks_to_withhold(&read.value));
         (alike && withheld).then_some(callers)
+    }
+
+    /// Whether the fields of this number are the same in both, none too.
+    fn have_the_same(&self, number: u64) -> bool {
+        self.one.iter().zip(&self.other).all(|(one, other)| one.field.number() != number || one.field == other.field)
     }
 
     /// The first field of this number in both.
@@ -48,7 +57,7 @@ impl<'a> Callers<'a> {
     pub fn count(&self, met: &mut Counts, numbers: [u64; 5], room: usize) {
         let [reason, _, detail, _, length] = numbers;
         met.met(Met::CallersSecondFrom, reason == 9 && detail == 3);
-        met.met(Met::CallersSecondIdentity, reason == 9 && detail == 15);
+        met.met(Met::CallersNotAllowed, reason == 10 && detail == 15 && self.have_the_same(15) && !self.have_the_same(3));
         met.met(Met::CallersSecondPrivacy, reason == 9 && detail == 16);
         met.met(Met::CallersOneFieldMore, reason == 5 && self.one.len() == MOST_FIELDS + 1);
         met.met(Met::CallersMostFields, reason == 0 && self.one.len() == MOST_FIELDS);
@@ -95,15 +104,38 @@ impl<'a> Callers<'a> {
     fn identities(&self, met: &mut Counts) {
         met.met(Met::CallersNoIdentity, self.first(15).is_none());
         let Some(pair) = self.first(15) else { return };
-        let scheme = |read: &Read| address::address(&read.value).map(|address| address.uri.scheme);
-        let number = |read: &Read| address::asserted_number(&read.value).map(|(start, length)| read.value[start..start + length].to_vec());
-        let same_from = self.first(3).is_some_and(|[one, other]| one.field == other.field);
-        met.met(Met::CallersIdentitySchemes, scheme(pair[0]) != scheme(pair[1]));
+        let [one, other] = [&self.one, &self.other].map(|reads| asserted(reads).unwrap_or_default());
+        let fields = self.one.iter().filter(|read| read.field.number() == 15).count();
+        let schemes = |all: &[Identity]| all.iter().map(|identity| identity.scheme).collect::<Vec<Scheme>>();
+        let [schemes, other_schemes] = [schemes(&one), schemes(&other)];
+        let turned = schemes.len() == 2 && other_schemes.len() == 2 && schemes != other_schemes;
+        met.met(Met::CallersIdentitySchemes, schemes.len() == 1 && other_schemes.len() == 1 && schemes != other_schemes);
+        met.met(Met::CallersIdentityMore, schemes.len() != other_schemes.len());
+        met.met(Met::CallersIdentityOrder, fields == 1 && turned);
+        met.met(Met::CallersTwoFields, fields == 2 && schemes == other_schemes);
+        met.met(Met::CallersTwoFieldsOrder, fields == 2 && turned);
         met.met(Met::CallersIdentityFold, is_folded(pair[0]) && !is_folded(pair[1]));
         met.met(Met::CallersIdentityLong, pair[0].value.len() > 2000 && pair[1].value.len() < 100);
-        met.met(Met::CallersIdentityAlone, same_from && number(pair[0]) != number(pair[1]));
-        met.met(Met::CallersFromAlone, !same_from && pair[0].field == pair[1].field);
+        let same_from = self.have_the_same(3);
+        met.met(Met::CallersIdentityAlone, same_from && numbers(pair[0]) != numbers(pair[1]));
+        met.met(Met::CallersFromAlone, !same_from && self.have_the_same(15));
     }
+}
+
+/// The identities of all P-Asserted-Identity fields, where each field is well formed by itself.
+fn asserted(reads: &[Read]) -> Option<Vec<Identity>> {
+    let fields = reads.iter().filter(|read| read.field.number() == 15);
+    fields.map(|read| identity::identities(&read.value)).collect::<Option<Vec<Vec<Identity>>>>().map(|all| all.concat())
+}
+
+fn are_allowed(reads: &[Read]) -> bool {
+    asserted(reads).is_some_and(|all| identity::are_allowed(&all))
+}
+
+/// The digits of each identity of a field.
+fn numbers(read: &Read) -> Vec<Vec<u8>> {
+    let all = identity::identities(&read.value).unwrap_or_default();
+    all.iter().map(|identity| read.value[identity.start..identity.start + identity.length].to_vec()).collect()
 }
 
 fn is_invite(start: &Start) -> bool {
@@ -126,15 +158,15 @@ fn read_alone(field: &Whole) -> Option<Read<'_>> {
     }
 }
 
-/// The same field, or one of the two with another good value behind the same name, blanks and colon; From keeps its tag.
+/// The same field, or one of the two with another value behind the same name, blanks and colon; From's is good and keeps its tag. What the
+/// identities may be is asked of all of them together.
 fn differ_in_the_caller_alone(one: &Read, other: &Read) -> bool {
     let before_colon = |read: &Read| read.field.rest.split(|&byte| byte == b':').next().map(|blanks| blanks.to_vec());
     let same_front = one.field.name == other.field.name && before_colon(one) == before_colon(other);
-    let identified = |read: &Read| address::asserted_number(&read.value).is_some();
     one.field == other.field
         || match one.field.number() {
             3 => same_front && tag(&one.value).is_some() && tag(&one.value) == tag(&other.value),
-            15 => same_front && identified(one) && identified(other),
+            15 => same_front,
             _ => false,
         }
 }

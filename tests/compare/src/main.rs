@@ -6,6 +6,7 @@ mod causes;
 mod counts;
 mod differences;
 mod guarded;
+mod identities;
 mod library;
 mod messages;
 mod privacy;

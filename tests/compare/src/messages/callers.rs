@@ -1,28 +1,29 @@
-//! Two INVITEs that are equal but for their caller, who is withheld (CR 5): the values of From, with one tag, and of the identity are drawn
-//! anew. Both are well formed in every form that the rules allow.
+//! Two INVITEs that are equal but for their caller, who is withheld (CR 5): the values of From, with one tag, and of the identities are drawn
+//! anew. They are well formed in every form that the rules allow; the identities of both are allowed, in other numbers, orders and schemes
+//! (CR 6), or they are the same in both, whatever they are.
 
 use super::folds::withholding;
+use super::identities::{any_scheme, comma, other};
 use super::values::{blanks, digits, is_token, pick, text, way};
 use super::{field, plain, with_faults};
 use second::drafts::{good_value, in_any_case, Dice, Draft, Whole};
 use second::lines::{MOST_BYTES, MOST_FIELDS};
+use second::uri::Scheme;
 
 /// Mostly as CR 5 takes them; a few are too long, lost their shape or are the same twice.
 pub fn two_callers(dice: &mut Dice) -> [Draft; 2] {
     let one = withheld(dice);
     let mut pair = [one.clone(), one];
-    for place in 0..pair[0].fields.len() {
-        let values = match pair[0].fields[place].number() {
-            3 => {
-                let tag = text(dice, 64, is_token);
-                two(dice, |dice| from(dice, &tag))
-            }
-            15 => two(dice, identity),
-            _ => continue,
-        };
-        for (draft, value) in pair.iter_mut().zip(values) {
-            put(&mut draft.fields[place], &value);
-        }
+    for place in places(&pair[0], 3) {
+        let tag = text(dice, 64, is_token);
+        let values = two(dice, |dice| vec![from(dice, &tag)]);
+        put_two(dice, &mut pair, &[place], values);
+    }
+    let fields = places(&pair[0], 15);
+    // Else both keep those they have, allowed or not.
+    if fields.len() <= 2 && !dice.one_in(8) {
+        let values = two(dice, |dice| allowed(dice, fields.len()));
+        put_two(dice, &mut pair, &fields, values);
     }
     // The first, the second, both, and mostly none.
     let full: &[usize] = if dice.one_in(20) { *dice.pick(&[&[0][..], &[1], &[0, 1]]) } else { &[] };
@@ -32,6 +33,11 @@ pub fn two_callers(dice: &mut Dice) -> [Draft; 2] {
         }
     }
     pair
+}
+
+/// The places of the fields of this number.
+fn places(draft: &Draft, number: u64) -> Vec<usize> {
+    (0..draft.fields.len()).filter(|&place| draft.fields[place].number() == number).collect()
 }
 
 /// The same message, whose Privacy hides nobody: each of the three ways to hide has a `d` or an `e`.
@@ -75,16 +81,25 @@ fn crowd(dice: &mut Dice, draft: &mut Draft) {
     }
 }
 
-/// Two values: mostly each for itself, else with other digits alone, or the same; some are of one length.
-fn two(dice: &mut Dice, draw: impl Fn(&mut Dice) -> Vec<u8>) -> [Vec<u8>; 2] {
+/// Values for each of two messages: mostly each for itself, else with other digits alone, or the same.
+fn two(dice: &mut Dice, draw: impl Fn(&mut Dice) -> Vec<Vec<u8>>) -> [Vec<Vec<u8>>; 2] {
     let one = draw(dice);
     let other = match dice.below(8) {
         0 => one.clone(),
-        1 => other_digits(dice, &one),
+        1 => one.iter().map(|value| other_digits(dice, value)).collect(),
         _ => draw(dice),
     };
-    let most = if dice.one_in(4) { one.len().max(other.len()) } else { 0 };
-    [one, other].map(|value| padded(dice, value, most))
+    [one, other]
+}
+
+/// Gives the fields at these places their values in both messages; some are of one length.
+fn put_two(dice: &mut Dice, pair: &mut [Draft; 2], places: &[usize], [one, other]: [Vec<Vec<u8>>; 2]) {
+    for ((&place, one), other) in places.iter().zip(one).zip(other) {
+        let most = if dice.one_in(4) { one.len().max(other.len()) } else { 0 };
+        for (draft, value) in pair.iter_mut().zip([one, other]) {
+            put(&mut draft.fields[place], &padded(dice, value, most));
+        }
+    }
 }
 
 /// The value with other digits in its first full number.
@@ -146,19 +161,30 @@ fn from(dice: &mut Dice, tag: &[u8]) -> Vec<u8> {
     [blanks(dice), address, parameters(dice), tag, parameters(dice), blanks(dice)].concat()
 }
 
-/// P-Asserted-Identity: a full number in every form of address.
-fn identity(dice: &mut Dice) -> Vec<u8> {
+/// Identities that CR 6 allows, for so many fields: in one field one or two, in two fields one in each, the first of either scheme.
+fn allowed(dice: &mut Dice, fields: usize) -> Vec<Vec<u8>> {
+    let first = any_scheme(dice);
+    let [one, two] = [first, other(first)].map(|scheme| identity(dice, scheme));
+    let all = match fields {
+        1 if dice.one_in(2) => vec![[one, comma(dice), two].concat()],
+        1 => vec![one],
+        _ => vec![one, two],
+    };
+    all.into_iter().map(|value| [blanks(dice), value, blanks(dice)].concat()).collect()
+}
+
+/// One identity of this scheme: a full number in every form of address.
+fn identity(dice: &mut Dice, scheme: Scheme) -> Vec<u8> {
     let number = full_number(dice);
-    let address = match dice.below(6) {
-        0 => [pick(dice, &["tel:", "TEL:", "tEl:"]), number].concat(),
-        1 => [display(dice), pick(dice, &["<tel:", "<Tel:"]), number, b">".to_vec()].concat(),
-        2 => sip(dice, &number),
-        _ => {
+    match (scheme, dice.below(3)) {
+        (Scheme::Tel, 0) => [pick(dice, &["tel:", "TEL:", "tEl:"]), number].concat(),
+        (Scheme::Tel, _) => [display(dice), pick(dice, &["<tel:", "<Tel:"]), number, b">".to_vec()].concat(),
+        (Scheme::Sip, 0) => sip(dice, &number),
+        (Scheme::Sip, _) => {
             let uri = sip(dice, &number);
             in_brackets(dice, uri)
         }
-    };
-    [blanks(dice), address, blanks(dice)].concat()
+    }
 }
 
 fn in_brackets(dice: &mut Dice, uri: Vec<u8>) -> Vec<u8> {

@@ -1,7 +1,7 @@
 //! One thing that is wrong, or nearly.
 
 use super::change::{ignored, ignored_names};
-use super::field;
+use super::{field, identities};
 use super::values::{pick, privacy, tokens, way};
 use second::drafts::{Dice, Draft, Whole};
 use second::start::Start;
@@ -27,6 +27,11 @@ pub fn of_request(dice: &mut Dice, draft: &mut Draft, column: usize) {
             draft.add("Privacy", &value);
         }
         7 => draft.set_uri(&pick(dice, &["sip:h", "sip:alice@h", "tel:1", "sip:1234567@h", "sip:+0123456789@h", "tel:+1", "sip:+331234@h", "sip:12a@h"])),
+        8 => {
+            // Beside the others it may be allowed, a second of its scheme, or a third.
+            let value = identities::value(dice);
+            draft.add("P-Asserted-Identity", &value);
+        }
         _ => of_either(dice, draft, column),
     }
 }

@@ -33,16 +33,20 @@ fn folded_length(dice: &mut Dice) -> usize {
     }
 }
 
-/// An identity with a fold before its number, behind it, or in its display name.
+/// An identity with a fold before its number, behind it, or in its display name; or two with folds beside their comma.
 pub fn folded_identity(dice: &mut Dice) -> Vec<u8> {
     let number = full_number(dice);
     let length = folded_length(dice);
     let text = folded_text(dice, length);
-    match dice.below(5) {
+    let [folds, more] = [(); 2].map(|_| fold(dice).repeat(1 + length / 8));
+    match dice.below(8) {
         0 => [&text[..], b" <tel:", number.as_bytes(), b">"].concat(),
-        1 => [&fold(dice).repeat(1 + length / 8)[..], b"sip:", number.as_bytes(), b"@h"].concat(),
-        2 => [&b"<sip:"[..], number.as_bytes(), b"@h>", &fold(dice).repeat(1 + length / 8)].concat(),
-        3 => [&b"a"[..], &fold(dice).repeat(1 + length / 8), b"<sip:", number.as_bytes(), b"@h>"].concat(),
+        1 => [&folds[..], b"sip:", number.as_bytes(), b"@h"].concat(),
+        2 => [&b"<sip:"[..], number.as_bytes(), b"@h>", &folds].concat(),
+        3 => [&b"a"[..], &folds, b"<sip:", number.as_bytes(), b"@h>"].concat(),
+        4 => [&b"tel:+1234567"[..], &folds, b",", &more, b"sip:", number.as_bytes(), b"@h"].concat(),
+        5 => [&text[..], b"<tel:+1234567>,\"", &text, b"\"", &fold(dice), b"<sip:", number.as_bytes(), b"@h;x>"].concat(),
+        6 => [&b"<sip:"[..], number.as_bytes(), b"@h>,", &folds, b"<tel:+1234567>"].concat(),
         _ => [&b"\""[..], &text, b"\"", &fold(dice), b"<sip:", number.as_bytes(), b"@h;x>"].concat(),
     }
 }

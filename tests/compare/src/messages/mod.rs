@@ -6,6 +6,7 @@ mod change;
 mod damage;
 mod faults;
 mod folds;
+mod identities;
 mod odd;
 mod relay;
 pub mod texts;
@@ -34,7 +35,7 @@ fn plain(dice: &mut Dice, column: usize) -> Draft {
     let mut draft = if REQUESTS.contains(&column) { request_line(dice, column) } else { status_line(dice, column) };
     all_fields(dice, &mut draft, column);
     body(dice, &mut draft);
-    identities(dice, &mut draft, column);
+    caller_fields(dice, &mut draft, column);
     if dice.one_in(3) {
         relay::strew(dice, &mut draft);
     }
@@ -75,7 +76,9 @@ fn status_line(dice: &mut Dice, column: usize) -> Draft {
 fn all_fields(dice: &mut Dice, draft: &mut Draft, column: usize) {
     for row in &ROWS {
         let mandatory = profile::letter(row, COLUMNS[column]) == b'M';
-        let times = if mandatory { 1 } else { usize::from(dice.one_in(3)) } + if row.repeats && dice.one_in(8) { 1 + dice.below(3) } else { 0 };
+        // How often P-Asserted-Identity comes again is drawn in `identities`.
+        let again = row.repeats && row.number != 15 && dice.one_in(8);
+        let times = if mandatory { 1 } else { usize::from(dice.one_in(3)) } + if again { 1 + dice.below(3) } else { 0 };
         for _ in 0..times {
             let field = field(dice, row.number, column);
             let place = if dice.one_in(3) { dice.below(draft.fields.len() + 1) } else { draft.fields.len() };
@@ -89,8 +92,8 @@ fn all_fields(dice: &mut Dice, draft: &mut Draft, column: usize) {
     }
 }
 
-/// What an INVITE is masked by and what its caller is called by; in a response neither counts.
-fn identities(dice: &mut Dice, draft: &mut Draft, column: usize) {
+/// What an INVITE is masked by and what its caller is called by; elsewhere neither counts.
+fn caller_fields(dice: &mut Dice, draft: &mut Draft, column: usize) {
     let invite = COLUMN_METHODS[column] == "INVITE";
     if invite && dice.one_in(2) {
         let value = privacy(dice);
@@ -98,6 +101,9 @@ fn identities(dice: &mut Dice, draft: &mut Draft, column: usize) {
     }
     if invite && dice.one_in(10) {
         folds::withhold(dice, draft);
+    }
+    if dice.one_in(if invite { 3 } else { 12 }) {
+        identities::fields(dice, draft);
     }
     if invite && dice.one_in(10) {
         let value = folds::folded_identity(dice);
@@ -122,10 +128,16 @@ fn oddities(dice: &mut Dice, mut draft: Draft) -> Draft {
 }
 
 fn field(dice: &mut Dice, number: u64, column: usize) -> Whole {
+    let value = value(dice, number, column);
+    with_value(dice, number, &value)
+}
+
+/// A field of this number and value, its name and the blanks around its value in any form.
+fn with_value(dice: &mut Dice, number: u64, value: &[u8]) -> Whole {
     let name = profile::row_of_number(number).map_or("X", |row| row.name).as_bytes();
     let name = if dice.one_in(3) { renamed(dice, name) } else { name.to_vec() };
     let mut rest = if dice.one_in(3) { pick(dice, &[" :", "\t: \t", ":\r\n ", ": \r\n\t\r\n "]) } else { pick(dice, &BLANKS) };
-    rest.extend(value(dice, number, column));
+    rest.extend(value);
     rest.extend(if dice.one_in(3) { pick(dice, &[" \r\n", "  \r\n", "\t\r\n", " \t\r\n", "\r\n \r\n"]) } else { b"\r\n".to_vec() });
     Whole { name, rest }
 }
@@ -157,7 +169,10 @@ fn stretch(dice: &mut Dice, draft: &mut Draft) {
     let (front, piece, back) = match number {
         3 | 4 => *dice.pick(&[("\"", "\\\"", "\" <sip:h>;tag=1"), ("<sip:h;", "%41", ">;tag=1"), ("<sip:h>;tag=1", ";a=\"b\"", ""), ("", "a ", "<sip:h>;tag=1"), ("<sip:h>", " ", ";tag=1")]),
         14 => ("", "timer , ", *dice.pick(&["timer", "x"])),
-        15 => ("", "a ", "<sip:+1234567@h>"),
+        15 => *dice.pick(&[
+            ("", "a ", "<sip:+1234567@h>"), ("<tel:+1234567>", " ", ",<sip:+1234567@h>"), ("<tel:+1234567>,", "\r\n ", "sip:+1234567@h"), ("\"", ",", "\"<tel:+1234567>,<sip:+1234567@h>"),
+            ("<tel:+1234567>,<sip:+1234567@h;", "a", ">"), ("<sip:+1234567@h>", ",<tel:+1234567>", ""),
+        ]),
         16 => *dice.pick(&[("", "x ;\t", "id"), ("", "none;", "USER"), ("none", "\r\n ;x", ";Header"), ("header", ";x", ""), ("User\t", ";\r\n none", ""), ("", "users;", "username")]),
         _ => *dice.pick(&[("", "a", ""), ("", "\r\n ", "x"), ("", "x\r\n\t", "x"), ("", " ", "x"), ("x", " ", "")]),
     };

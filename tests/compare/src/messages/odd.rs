@@ -5,9 +5,9 @@ use second::drafts::{Dice, Draft, Whole};
 use second::profile;
 
 /// What carries a value with an odd byte: the number of the field, 0 for one that is not listed, and what stands around the value.
-pub const CARRIERS: [(u64, &str, &str); 9] = [
+pub const CARRIERS: [(u64, &str, &str); 11] = [
     (0, "", ""), (1, "", ""), (3, "\"", "\" <sip:h>;tag=1"), (3, "<sip:h>;tag=1;a=", ""), (5, "", ""), (14, "timer,", ""), (15, "\"", "\" <sip:+1234567@h>"), (16, "Header;", ""),
-    (16, "", ";uSER"),
+    (16, "", ";uSER"), (15, "\"", "\" <tel:+1234567>, <sip:+1234568@h>"), (15, "<tel:+1234567>,\"", "\"<sip:+1234568@h>"),
 ];
 
 /// Bytes at the borders of what a value may hold.

@@ -1,5 +1,6 @@
 //! Values that are good, as odd as the rules allow, and sometimes just over an edge.
 
+use super::identities;
 use second::drafts::{good_value, in_any_case, Dice, COLUMN_METHODS, RESPONSES};
 
 pub fn pick(dice: &mut Dice, list: &[&str]) -> Vec<u8> {
@@ -22,7 +23,7 @@ pub fn value(dice: &mut Dice, number: u64, column: usize) -> Vec<u8> {
         6 => sequence(dice, column),
         8 => pick(dice, &["0", "00", "00000"]),
         14 => tokens(dice, &["timer", "100rel", "Timer", "100REL"], ","),
-        15 => asserted(dice),
+        15 => identities::value(dice),
         16 => privacy(dice),
         12 | 13 | 17 => pick(dice, &["", "INVITE, ACK", "a/b;q=\"x\"", ",,;", "timer\r\n ,100rel", "\u{e9}\t\""]),
         _ => pick(dice, &["x", "SIP/2.0/UDP h;branch=z9hG4bK1", "<sip:a@h;lr>,\r\n <sip:b>", "a\t b  c", "\"\\\"", "\u{ff}"]),
@@ -181,13 +182,13 @@ pub fn blanks(dice: &mut Dice) -> Vec<u8> {
 fn quoted(dice: &mut Dice) -> Vec<u8> {
     let mut out = b"\"".to_vec();
     for _ in 0..dice.below(6) {
-        out.extend(dice.pick(&["a", " ", "\\\"", "\\\\", ";tag=no", "<sip:x>", "\t", "\u{e9}", "\r\n ", "\\a", ">"]).as_bytes());
+        out.extend(dice.pick(&["a", " ", "\\\"", "\\\\", ";tag=no", "<sip:x>", "\t", "\u{e9}", "\r\n ", "\\a", ">", ", "]).as_bytes());
     }
     out.push(b'"');
     out
 }
 
-fn display(dice: &mut Dice) -> Vec<u8> {
+pub fn display(dice: &mut Dice) -> Vec<u8> {
     match dice.below(4) {
         0 => Vec::new(),
         1 => [quoted(dice), blanks(dice)].concat(),
@@ -224,15 +225,4 @@ fn address(dice: &mut Dice, tag: bool) -> Vec<u8> {
         return [base_uri(dice), parameters(dice, tag)].concat();
     }
     [display(dice), b"<".to_vec(), uri(dice), b">".to_vec(), parameters(dice, tag)].concat()
-}
-
-fn asserted(dice: &mut Dice) -> Vec<u8> {
-    let number = full_number(dice);
-    match dice.below(5) {
-        0 => format!("tel:{number}").into_bytes(),
-        1 => [display(dice), format!("<tel:{number}>").into_bytes()].concat(),
-        2 => [display(dice), format!("<sip:{number}@h;x=y>").into_bytes()].concat(),
-        3 => format!("sip:{number}@h:5060").into_bytes(),
-        _ => [display(dice), format!("<SIP:{number}@h>").into_bytes()].concat(),
-    }
 }
