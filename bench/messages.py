@@ -2,6 +2,8 @@
 """Writes the benchmark's messages into a folder: messages.py FOLDER
 
 call            the build description's call in full
+call-two        the call with a tel identity too, in the same field
+call-fields     the same in a field of its own, before the sip one
 call-200        a 200 to it, with as many bytes and fields
 call-180        a 180 to it
 invite          an INVITE of about 1,300 bytes with a body
@@ -39,6 +41,8 @@ Privacy: id
 l: 0
 
 """
+
+SIP_IDENTITY = "P-Asserted-Identity: <sip:+33187654321@relay.example>"
 
 CALL_200 = """SIP/2.0 200 OK
 v: SIP/2.0/UDP relay.example;branch=z9hG4bK7
@@ -201,7 +205,9 @@ def main():
     sdp = crlf(SDP)
     invite = crlf(INVITE.format(length=len(sdp))) + sdp
     messages = {
-        "call": crlf(CALL), "call-200": crlf(CALL_200), "call-180": crlf(CALL_180), "invite": invite,
+        "call": crlf(CALL), "call-two": crlf(replaced(CALL, SIP_IDENTITY, SIP_IDENTITY + ", <tel:+33187654321>")),
+        "call-fields": crlf(replaced(CALL, SIP_IDENTITY, "P-Asserted-Identity: <tel:+33187654321>\n" + SIP_IDENTITY)),
+        "call-200": crlf(CALL_200), "call-180": crlf(CALL_180), "invite": invite,
         "invite-200": crlf(INVITE_200.format(length=len(sdp))) + sdp,
         "refused-3": replaced(invite, " SIP/2.0\r\n", " SIP/2.1\r\n"), "refused-4": replaced(invite, "CSeq: ", "CSeq "),
         "refused-12": replaced(invite, "Allow: ", "X-Allow: "),

@@ -9,7 +9,7 @@ import os
 import random
 import sys
 
-CALLS = ["call", "call-200", "call-180", "invite", "invite-200"]
+CALLS = ["call", "call-200", "call-180", "call-two", "call-fields", "invite", "invite-200"]
 
 
 def record(message, side):

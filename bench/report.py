@@ -19,14 +19,15 @@ TITLES = {"mishkolar": "Mishkolar", "second": "second", "osip": "libosip2", "sof
 COLOURS = {"mishkolar": "#0b5fa5", "second": "#7a7a7a", "osip": "#c2571a", "sofia": "#2d7d46"}
 SHAPES = ["folds", "quoted", "parameters", "bare", "folded", "tags", "privacy", "fields"]
 WORDS = {
-    "call": "the build description's call", "call-200": "a 200 to it", "call-180": "a 180 to it", "invite": "INVITE with a body",
+    "call": "the build description's call", "call-two": "the call with a sip and a tel identity in one field",
+    "call-fields": "the same in two fields", "call-200": "a 200 to it", "call-180": "a 180 to it", "invite": "INVITE with a body",
     "invite-200": "a 200 to it with a body", "folds": "folds", "quoted": "one quoted string", "parameters": "parameters",
     "bare": "short parameters", "folded": "a fold before each parameter", "tags": "required tags", "privacy": "tokens of Privacy",
     "fields": "96 fields", "empty": "80 empty fields",
     "refused-3": "the INVITE refused early: start line", "refused-4": "refused in the middle: a field without colon", "refused-12": "refused late: no Allow",
     "calling": "calling number", "count": "count of Via", "reading": "reading of the first Via",
 }
-CALLS = ["call", "call-200", "call-180", "invite", "invite-200", "refused-3", "refused-4", "refused-12"]
+CALLS = ["call", "call-200", "call-180", "call-two", "call-fields", "invite", "invite-200", "refused-3", "refused-4", "refused-12"]
 # Tasks of the library alone, and those that judge: a refusal is their answer.
 ALONE = ["calling", "count", "reading"]
 JUDGES = ["mishkolar", "second"]
