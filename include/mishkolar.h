@@ -16,7 +16,7 @@ extern "C" {
 #endif
 
 /*
- * No function takes more than so many bytes of stack, its return address included. The most that was measured is 13,048, of
+ * No function takes more than so many bytes of stack, its return address included. The most that was measured is 13,064, of
  * mishkolar_replay; mishkolar_screen takes 11,912. It is measured by tests/stack/run, and not proved.
  */
 #define MISHKOLAR_STACK 13200
@@ -26,7 +26,7 @@ extern "C" {
  *
  * Accepted: *reason is 0, the outgoing message stands at the front of out, and its length is returned. The other bytes of out stay.
  * On side 1 an INVITE whose Privacy has one of the tokens `header`, `user` and `id`, in any letter case and whatever stands beside it, goes
- * out without P-Asserted-Identity and with a From that is anonymous but for its tag. A response has the same answer on both sides.
+ * out without any P-Asserted-Identity and with a From that is anonymous but for its tag. A response has the same answer on both sides.
  * Refused: *reason is 1 to 17, 0 is returned, and out is untouched. Then
  *   *reply    is the SIP status to answer with; 0: send nothing (always for ACK and for a response);
  *   *detail   is at 9 the number of the field that came again, at 10 of the malformed one, at 12 the lowest missing number, at 14 the
@@ -37,6 +37,8 @@ extern "C" {
  * field came again, 10 a malformed value, 11 Content-Length exceeds the bytes there, 12 mandatory field missing, 13 Max-Forwards is 0,
  * 14 a required tag we lack, 15 called number, 16 output longer than out, 17 status outside 100 to 699. The first that applies is told:
  * of a request 1 to 16 in that order, of a response 1 to 5, 17, 6, 9 to 12, 16.
+ * An INVITE may have one asserted identity, or a sip and a tel one, parted by a comma in one P-Asserted-Identity or in two of them. The
+ * field that brings a third, or two of one scheme, is malformed: 10 with detail 15.
  * Fields: 1 Via, 2 Max-Forwards, 3 From, 4 To, 5 Call-ID, 6 CSeq, 7 Contact, 8 Content-Length, 9 Content-Type, 10 Route, 11 Reason,
  * 12 Allow, 13 Supported, 14 Require, 15 P-Asserted-Identity, 16 Privacy, 17 Accept, 18 Record-Route.
  * Which fields are mandatory, and which are ignored and do not go out, is said by a column (crates/sip/specs/Profile.antt). Requests have
@@ -49,7 +51,9 @@ size_t mishkolar_screen(const uint8_t *message, size_t len, uint64_t side, uint8
 
 /*
  * How often the field of that number stands in the message, in long or compact form and any letter case; 0 where the message has a
- * reason of 2 to 5 or the number is not listed.
+ * reason of 2 to 5 or the number is not listed. Fields are counted, not what commas part in them. So of an INVITE that is accepted
+ * mishkolar_count(.., 15) may be 2, a sip and a tel identity in two fields, and it is 1 where both stand in one: whoever reads the first
+ * P-Asserted-Identity alone may miss the sip one. The calling number is found by mishkolar_calling_number.
  */
 size_t mishkolar_count(const uint8_t *message, size_t len, uint64_t field);
 
@@ -61,9 +65,9 @@ size_t mishkolar_reading(const uint8_t *message, size_t len, uint64_t field, uin
 
 /*
  * The calling number, with its plus sign: the length is returned. *from_trunk is 1 where it is the trunk number, else it stands in the
- * message from *start on. It ends within the one or the other. It is empty, and all three are 0, where the trunk number is no plus sign
- * and 7 to 15 digits, the first not 0, or where the message has a reason of 2 to 15 or 17 on side 0. A response without such a
- * reason has the trunk number.
+ * message from *start on. It ends within the one or the other. Of a sip and a tel identity, in either order, it is the sip one's. It is
+ * empty, and all three are 0, where the trunk number is no plus sign and 7 to 15 digits, the first not 0, or where the message has a
+ * reason of 2 to 15 or 17 on side 0. A response without such a reason has the trunk number.
  */
 size_t mishkolar_calling_number(const uint8_t *message, size_t len, const uint8_t *trunk, size_t trunk_len,
                                 size_t *start, uint64_t *from_trunk);
