@@ -9,11 +9,12 @@ use borrow.Author.Tests.{eqb-true, eqb-false, ne-eqb, not-true}
 use Rattle.octets.specs.Scans.{decimal, noNumber, number}
 use Rattle.sip.specs.Values.{isNumber, isMaxForwards, isContentLength, isTo, isTagged, isFrom, isPrivacy, isRequire, allowed, isAsserted}
 use Rattle.sip.specs.Refusals.{Entry, wellFormed, brought}
+use Rattle.sip.proofs.Identities.{asserted-allowed}
 use Rattle.sip.proofs.Tests.{and-left, and-right}
 use Rattle.values.specs.Answers.{wholeNumber, privacyAt, requireAt}
 use Rattle.judgement.specs.declared.Finding.{Finding}
 use Rattle.judgement.specs.Tallies.{finding}
-use Rattle.judgement.proofs.Schemes.{mask, asserted-allowed, asserted-mask, asserted-good}
+use Rattle.judgement.proofs.Schemes.{mask, asserted-mask, asserted-good}
 
 good-cond : (b : Bool) (x y : Finding) → cond b x y .good ≡ cond b (x .good) (y .good)
 good-cond true x y = refl

@@ -7,6 +7,7 @@ use lib.Bits.{bitAnd, bitOr, and-zero-l, or-zero-l}
 use lib.Dec.{eqb}
 use Rattle.sip.specs.declared.IdentityAt.{IdentityAt}
 use Rattle.sip.specs.Values.{identities, schemes, allowed, isAsserted}
+use Rattle.sip.proofs.Identities.{asserted-allowed}
 use Rattle.sip.proofs.Tests.{never}
 use Rattle.values.specs.Answers.{assertedOf, assertedAt}
 
@@ -63,21 +64,13 @@ of-mask (i ∷ j ∷ k ∷ is) a = never (cc)
 
 module _ (v : List ℕ) where
   module _ (e : isAsserted v ≡ true) where
-    pub asserted-allowed : allowed (schemes v) ≡ true
-    unfolding isAsserted allowed
-    asserted-allowed = go (schemes v) refl
-      where
-        go : (ts : List Bool) → schemes v ≡ ts → allowed ts ≡ true
-        go [] q = refl
-        go (t ∷ ts) q = rw q at e
-
     pub asserted-of : assertedAt v ≡ assertedOf (identities v)
     unfolding assertedAt
     asserted-of = rw e
 
     pub asserted-mask : assertedAt v .schemes ≡ mask (schemes v)
     unfolding schemes
-    asserted-mask = rw asserted-of (of-mask (identities v) asserted-allowed)
+    asserted-mask = rw asserted-of (of-mask (identities v) (asserted-allowed v e))
 
     some-scheme : not (eqb (mask (schemes v)) 0) ≡ true
     unfolding isAsserted mask

@@ -13,7 +13,8 @@ use Rattle.octets.specs.Scans.{run, all, starts, any}
 use Rattle.octets.proofs.Runs.{whole-all}
 use Rattle.sip.specs.declared.AddressAt.{AddressAt}
 use Rattle.sip.specs.declared.IdentityAt.{IdentityAt}
-use Rattle.sip.specs.Values.{address, personSize, person, sign, isGlobal, noIdentity, identity, after, identities, numberIn}
+use Rattle.sip.specs.Values.{address, personSize, person, sign, isGlobal, noIdentity, identity, after, identities, numberIn, schemes}
+use Rattle.sip.specs.Values.{allowed, isNone, isAsserted}
 use Rattle.sip.proofs.Tests.{and-left, and-right, range-low, byte-start, all-first, all-others}
 use Rattle.sip.proofs.Addresses.{address-within}
 
@@ -134,3 +135,8 @@ all-stand v (two-found n m l q) =
 
 pub identities-stand : (v : List ℕ) → AllStand v (identities v)
 identities-stand v = all-stand v (found-in-value v)
+
+-- those of a value that is good by itself are allowed
+pub asserted-allowed : (v : List ℕ) → isAsserted v ≡ true → allowed (schemes v) ≡ true
+unfolding isAsserted
+asserted-allowed v e = and-right (not (isNone (schemes v))) (allowed (schemes v)) e

@@ -291,7 +291,7 @@ allowed (t ∷ []) = true
 allowed (t ∷ u ∷ []) = cond t (not u) u
 allowed (t ∷ u ∷ w ∷ ts) = false
 
-abbrev isNone : List Bool → Bool
+abbrev pub isNone : List Bool → Bool
 isNone [] = true
 isNone (t ∷ ts) = false
 

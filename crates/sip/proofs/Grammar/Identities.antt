@@ -17,7 +17,7 @@ use Rattle.sip.specs.Grammar.{Separator, quoted-string, UriParts, sip-pa
 use Rattle.sip.specs.Grammar.{no-name, quoted-name, words-name, Address, name-addr, addr-spec, Identity, identity-of, Identities}
 use Rattle.sip.specs.Grammar.{one-identity, two-identities, Allowed, none-asserted, one-asserted, sip-and-tel, tel-and-sip}
 use Rattle.sip.specs.GrammarPromises.{FoundIn}
-use Rattle.sip.proofs.Identities.{comma, Found, nothing-found, one-found, two-found, found-in-value}
+use Rattle.sip.proofs.Identities.{comma, Found, nothing-found, one-found, two-found, found-in-value, asserted-allowed}
 use Rattle.sip.proofs.Tests.{never}
 use Rattle.sip.proofs.Grammar.Bytes.{Ends, some-no, stop}
 use Rattle.sip.proofs.Grammar.Separators.{SignView, sign-exact, sign-some, sign-view, signed, token-no-blank, unsigned}
@@ -216,14 +216,6 @@ unfolding isAsserted
 asserted-complete (one-identity d) a = rw (identities-in (one-identity d) .schemes-are) (allowed-complete a)
 asserted-complete (two-identities d sc e) a = rw (identities-in (two-identities d sc e) .schemes-are) (allowed-complete a)
 
-schemes-allowed : (v : List ℕ) → isAsserted v ≡ true → allowed (schemes v) ≡ true
-unfolding isAsserted allowed
-schemes-allowed v e = go (schemes v) refl
-  where
-    go : (ts : List Bool) → schemes v ≡ ts → allowed ts ≡ true
-    go [] q = refl
-    go (t ∷ ts) q = rw q at e
-
 none-refused : (v : List ℕ) → identities v ≡ [] → isAsserted v ≡ false
 unfolding isAsserted schemes
 none-refused v q = rw q
@@ -232,5 +224,5 @@ pub asserted-sound : (v : List ℕ) → isAsserted v ≡ true → (us : List Uri
 asserted-sound v e = go (identities v) refl (identities-view v)
   where
     go : (is : List IdentityAt) → identities v ≡ is → IdentitiesView v is → (us : List UriParts) × Identities v us × Allowed us
-    go is q (there {us} d) = (us, d, allowed-sound us (rw (identities-in d .schemes-are) at (schemes-allowed v e)))
+    go is q (there {us} d) = (us, d, allowed-sound us (rw (identities-in d .schemes-are) at (asserted-allowed v e)))
     go _ q not-there = let z : true ≡ false = sym e ∙ none-refused v q in never (cc)
