@@ -108,8 +108,9 @@ unfoldable pub counted : Tally → ℕ → Bool → Tally
 counted t n good =
     recounted t (bitOr (t .seen) (2 ^ n)) (orElse (t .again) (cond (once n && has (t .seen) n) n 0)) (orElse (t .malformed) (cond good 0 n))
 
-unfoldable pub required : Tally → Finding → Tally
-required t f =
+-- with these for the number of required tags and the place of the first that we lack
+abbrev pub retagged : Tally → ℕ → ℕ → Tally
+retagged t tags lacking =
     record {
       seen = t .seen;
       schemes = t .schemes;
@@ -119,17 +120,21 @@ required t f =
       tagged = t .tagged;
       withheld = t .withheld;
       length = t .length;
-      tags = t .tags + f .len;
-      lacking = orElse (t .lacking) (cond (eqb (f .start) 0) 0 (t .tags + f .start));
+      tags = tags;
+      lacking = lacking;
       tag = t .tag;
       caller = t .caller;
     }
 
-unfoldable pub identified : Tally → Finding → Tally
-identified t f =
+unfoldable pub required : Tally → Finding → Tally
+required t f = retagged t (t .tags + f .len) (orElse (t .lacking) (cond (eqb (f .start) 0) 0 (t .tags + f .start)))
+
+-- with these for the schemes seen and for where the caller's number stands
+abbrev pub reasserted : Tally → ℕ → CallerAt → Tally
+reasserted t schemes caller =
     record {
       seen = t .seen;
-      schemes = bitOr (t .schemes) (f .schemes);
+      schemes = schemes;
       again = t .again;
       malformed = t .malformed;
       hops = t .hops;
@@ -139,8 +144,11 @@ identified t f =
       tags = t .tags;
       lacking = t .lacking;
       tag = t .tag;
-      caller = callerAfter (t .schemes) (t .caller) f;
+      caller = caller;
     }
+
+unfoldable pub identified : Tally → Finding → Tally
+identified t f = reasserted t (bitOr (t .schemes) (f .schemes)) (callerAfter (t .schemes) (t .caller) f)
 
 unfoldable pub said : Tally → ℕ → Finding → Tally
 said t n f =

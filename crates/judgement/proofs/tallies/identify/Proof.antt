@@ -1,47 +1,28 @@
 -- One law for each answer: the first field that asserts, a sip identity in the second, and a tel one there.
 use borrow.Author.Needs.{needs}
 use mathlib.Core.Path.{_≡_}
-use Prim.Native.Nat.{ℕ}
 use lib.Bits.{bitOr}
 use borrow.Author.Tests.{ne-eqb}
 use Rattle.sip.specs.declared.CallerAt.{CallerAt}
 use Rattle.judgement.specs.declared.Finding.{Finding}
 use Rattle.judgement.specs.declared.Tally.{Tally}
-use Rattle.judgement.specs.Tallies.{identified}
+use Rattle.judgement.specs.Tallies.{reasserted, identified}
 use Rattle.judgement.proofs.tallies.identify.Statement.{statement}
 use Rattle.judgement.proofs.tallies.identify.Tie as tie
 
--- the tally with these schemes and this caller
-abbrev with-caller : Tally → ℕ → CallerAt → Tally
-with-caller t s k =
-    record {
-      seen = t .seen;
-      schemes = s;
-      again = t .again;
-      malformed = t .malformed;
-      hops = t .hops;
-      tagged = t .tagged;
-      withheld = t .withheld;
-      length = t .length;
-      tags = t .tags;
-      lacking = t .lacking;
-      tag = t .tag;
-      caller = k;
-    }
-
 module _ (t : Tally) (f : Finding) where
   first : t .schemes ≡ 0 → {k : CallerAt} → k ≡ record { field = 1; start = f .start; len = f .len }
-      → with-caller t (bitOr (t .schemes) (f .schemes)) k ≡ identified t f
+      → reasserted t (bitOr (t .schemes) (f .schemes)) k ≡ identified t f
   unfolding identified
   first z h = rw (h, z)
 
   module _ (z : t .schemes ≡ 0 → ⊥) where
     second : f .schemes ≡ 1 → {k : CallerAt} → k ≡ record { field = 2; start = f .start; len = f .len }
-        → with-caller t (bitOr (t .schemes) (f .schemes)) k ≡ identified t f
+        → reasserted t (bitOr (t .schemes) (f .schemes)) k ≡ identified t f
     unfolding identified
     second q h = rw (h, ne-eqb (t .schemes) 0 z, q)
 
-    kept : (f .schemes ≡ 1 → ⊥) → with-caller t (bitOr (t .schemes) (f .schemes)) (t .caller) ≡ identified t f
+    kept : (f .schemes ≡ 1 → ⊥) → reasserted t (bitOr (t .schemes) (f .schemes)) (t .caller) ≡ identified t f
     unfolding identified
     kept q = rw (ne-eqb (t .schemes) 0 z, ne-eqb (f .schemes) 1 q)
 

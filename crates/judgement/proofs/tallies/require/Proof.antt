@@ -6,27 +6,13 @@ use Prim.Native.Nat.{ℕ, _+_}
 use lib.Dec.{eqb}
 use Rattle.judgement.specs.declared.Finding.{Finding}
 use Rattle.judgement.specs.declared.Tally.{Tally}
-use Rattle.judgement.specs.Tallies.{orElse, required}
+use Rattle.judgement.specs.Tallies.{orElse, retagged, required}
 use Rattle.judgement.proofs.tallies.require.Statement.{statement}
 use Rattle.judgement.proofs.tallies.require.Tie as tie
 
 require-is : (t : Tally) (f : Finding) {k l : ℕ} → k ≡ t .tags + f .len
     → l ≡ orElse (t .lacking) (cond (eqb (f .start) 0) 0 (t .tags + f .start))
-    → record {
-      seen = t .seen;
-      schemes = t .schemes;
-      again = t .again;
-      malformed = t .malformed;
-      hops = t .hops;
-      tagged = t .tagged;
-      withheld = t .withheld;
-      length = t .length;
-      tags = k;
-      lacking = l;
-      tag = t .tag;
-      caller = t .caller;
-    }
-    ≡ required t f
+    → retagged t k l ≡ required t f
 unfolding required
 require-is t f ek el = rw (ek, el)
 
