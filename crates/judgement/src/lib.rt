@@ -1,7 +1,11 @@
 // Judges a message: the reasons 2 to 15 and 17, and what the writer needs to know of a message that none of them refuses.
 ghost use mathlib.Core.Path.{_≡_};
+ghost use mathlib.Core.Bool.{_&&_};
 ghost use Prim.Native.Nat.{_+_, _≤_};
+ghost use lib.Dec.{leb};
 ghost use lib.ListN.{length};
+ghost use Rattle.sip.specs.Lines.{folded};
+ghost use Rattle.sip.specs.Values.{isTagged};
 ghost use Rattle.lines.specs.Index.{index};
 ghost use Rattle.judgement.specs.Sets.{has};
 ghost use Rattle.judgement.specs.Entries.{Within};
@@ -92,6 +96,17 @@ pub fn in_set(set: u32, n: usize) -> bool
     ensures { λ r. ⌜ r ≡ has set n ⌝ }
 {
     sets::in_set(set, n)
+}
+
+// The canonical form of a value of To has a tag. No value of more than 8,192 bytes is looked at.
+pub fn is_tagged(v: &[u8]) -> bool
+    ensures { λ r. ⌜ r ≡ (leb (length (now (v .entry))) 8192 && isTagged (folded 0 (now (v .entry)))) ⌝ }
+{
+    if 8192 < v.len() {
+        return false;
+    }
+    let to = tallies::finding_folded(b"", 4, v);
+    to.len != 0
 }
 
 // A message that was read. A response has no method in its start line, so that its length tells the kind.

@@ -246,7 +246,7 @@ const READ: u32 = 0b1_1100_0001_0111_1100;
 
 // What is found in the canonical form of a value with a line break in it. It is made only where it is read: a value is empty exactly
 // where its canonical form is.
-fn finding_folded(method: &[u8], n: usize, v: &[u8]) -> Finding
+pub(crate) fn finding_folded(method: &[u8], n: usize, v: &[u8]) -> Finding
     requires { ⌜ length (now v) ≤ 8192 ⌝ }
     ensures { λ r. ⌜ (r ≡ finding (now (method .entry)) n (folded 0 (now (v .entry)))) × (r .start ≤ 108191) × (r .len ≤ 108191) ⌝ }
 {

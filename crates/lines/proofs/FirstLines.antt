@@ -34,7 +34,7 @@ among-value [] b a e = never e
 among-value (x ∷ xs) b a e =
     either (eqb b x) (among xs b) e (λ q. rw (eqb-true b x q) (all-first isValue x xs a)) (among-value xs b (all-others isValue x xs a))
 
-visible-value : (b : ℕ) → isVisible b ≡ true → isValue b ≡ true
+pub visible-value : (b : ℕ) → isVisible b ≡ true → isValue b ≡ true
 unfolding isVisible
 visible-value b e = range-value 33 126 b (omega arith) (omega arith) e
 

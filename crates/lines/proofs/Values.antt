@@ -58,7 +58,7 @@ longer-inv (some m) e = (m, refl, cc)
 
 -- ---- value bytes
 
-value-byte : (b : ℕ) (s : List ℕ) → isValue b ≡ true → valueSize 0 (b ∷ s) ≡ oneLonger (valueSize 0 s)
+pub value-byte : (b : ℕ) (s : List ℕ) → isValue b ≡ true → valueSize 0 (b ∷ s) ≡ oneLonger (valueSize 0 s)
 unfolding valueSize
 value-byte b s v = rw (no-crlf b s v, v)
 

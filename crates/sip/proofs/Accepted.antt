@@ -1,4 +1,5 @@
--- An accepted message is made of the lines that were read, no field repeats that must not, every value is well formed and the identities are allowed.
+-- An accepted message is made of the lines that were read, it has a column, no field repeats that must not, every value is well formed, the
+-- identities are allowed, and no mandatory field is missing.
 use mathlib.Core.Path.{_≡_, refl}
 use mathlib.Core.Bool.{Bool, true, false, not, cond, _&&_}
 use mathlib.Core.List.{List, [], _∷_, _++_, append-nil}
@@ -13,8 +14,8 @@ use Rattle.sip.specs.Lines.{RequestLine, StatusLine, Start, request, res
 use Rattle.sip.specs.Profile.{columnOf}
 use Rattle.sip.specs.Values.{allowed}
 use Rattle.sip.specs.Refusals.{Answer, refusal, Entry, toTagged, when, firstRepeat, wellFormed, brought, firstMalformed}
-use Rattle.sip.specs.Refusals.{reason7, reason8, reason9, reason10, firstOf, reasons, responseReasons, Passed, passed, refused, accepted}
-use Rattle.sip.specs.Refusals.{judgedRequest, firstCSeqMethod, statusOf, responseColumnOf, judgedResponse, judged}
+use Rattle.sip.specs.Refusals.{reason7, reason8, reason9, reason10, reason11, reason12, firstOf, reasons, responseReasons, Passed, passed, refused}
+use Rattle.sip.specs.Refusals.{accepted, judgedRequest, firstCSeqMethod, statusOf, responseColumnOf, judgedResponse, judged}
 use Rattle.sip.proofs.Tests.{never}
 
 none-first : (a : Option Answer) (rs : List (Option Answer)) → firstOf (a ∷ rs) ≡ none → (a ≡ none) × (firstOf rs ≡ none)
@@ -41,10 +42,18 @@ abbrev pub methodOf : Start → List Entry → List ℕ
 methodOf (request l) es = l .method
 methodOf (response l) es = firstCSeqMethod es
 
+-- the column of a message by its kept fields
+abbrev pub columnIn : Start → List Entry → Option Column
+columnIn (request l) es = columnOf (l .method) (toTagged es)
+columnIn (response l) es = responseColumnOf l es
+
 pub record Accepted (l : Start) (es : List Entry) (rest : List ℕ) (r : Passed) : Type 0 where
   pub made : r ≡ passed l es rest
+  pub column : Column
+  pub has-column : columnIn l es ≡ some column
   pub unrepeated : firstRepeat [] es ≡ 0
   pub formed : firstMalformed (methodOf l es) [] es ≡ 0
+  pub complete : reason12 column es rest ≡ none
 
 -- no judgement is both
 pub not-both : {A : Type 0} {a : Answer} {r : Passed} → refused a ≡ accepted r → A
@@ -61,8 +70,17 @@ request-inv l es rest r e = go (columnOf (l .method) (toTagged es)) refl
         let (_, x8) = none-first (reason7 l) (drop 1 (reasons c l es rest)) x in
         let (_, x9) = none-first (reason8 l) (drop 2 (reasons c l es rest)) x8 in
         let (n9, x10) = none-first (reason9 es) (drop 3 (reasons c l es rest)) x9 in
-        let (n10, _) = none-first (reason10 (l .method) es) (drop 4 (reasons c l es rest)) x10 in
-        record { made = cc; unrepeated = none-repeats es n9; formed = none-malformed (l .method) es n10 }
+        let (n10, x11) = none-first (reason10 (l .method) es) (drop 4 (reasons c l es rest)) x10 in
+        let (_, x12) = none-first (reason11 es rest) (drop 5 (reasons c l es rest)) x11 in
+        let (n12, _) = none-first (reason12 c es rest) (drop 6 (reasons c l es rest)) x12 in
+        record {
+          made = cc;
+          column = c;
+          has-column = p;
+          unrepeated = none-repeats es n9;
+          formed = none-malformed (l .method) es n10;
+          complete = n12;
+        }
     next c p (some a) x = not-both (rw (p, judgedRequest, x) at e)
 
     go : (o : Option Column) → columnOf (l .method) (toTagged es) ≡ o → Accepted (request l) es rest r
@@ -82,8 +100,17 @@ response-inv l es rest r e = go (within 100 699 (statusOf l)) (responseColumnOf 
     next c t p none x =
         let z : accepted (passed (response l) es rest) ≡ accepted r = rw (t, p, judgedResponse, x) at e in
         let (n9, x10) = none-first (reason9 es) (drop 1 (responseReasons c (firstCSeqMethod es) es rest)) x in
-        let (n10, _) = none-first (reason10 (firstCSeqMethod es) es) (drop 2 (responseReasons c (firstCSeqMethod es) es rest)) x10 in
-        record { made = cc; unrepeated = none-repeats es n9; formed = none-malformed (firstCSeqMethod es) es n10 }
+        let (n10, x11) = none-first (reason10 (firstCSeqMethod es) es) (drop 2 (responseReasons c (firstCSeqMethod es) es rest)) x10 in
+        let (_, x12) = none-first (reason11 es rest) (drop 3 (responseReasons c (firstCSeqMethod es) es rest)) x11 in
+        let (n12, _) = none-first (reason12 c es rest) [] x12 in
+        record {
+          made = cc;
+          column = c;
+          has-column = p;
+          unrepeated = none-repeats es n9;
+          formed = none-malformed (firstCSeqMethod es) es n10;
+          complete = n12;
+        }
     next c t p (some a) x = not-both (rw (t, p, judgedResponse, x) at e)
 
     go : (t : Bool) (o : Option Column) → within 100 699 (statusOf l) ≡ t → responseColumnOf l es ≡ o → Accepted (response l) es rest r

@@ -29,7 +29,7 @@ use Rattle.sip.proofs.Canonical.{canonical-core}
 use Rattle.sip.proofs.Unfolded.{unfolded-le, unfolded-part}
 use Rattle.sip.proofs.Accepted.{judged-inv}
 use Rattle.sip.proofs.Firsts.{none-asserted}
-use Rattle.sip.proofs.Identities.{Stands, AllStand, none-stands, also-stands, identities-stand}
+use Rattle.sip.proofs.Identities.{Stands, plain, AllStand, none-stands, also-stands, identities-stand}
 use Rattle.sip.proofs.Spans.{value-part, next-here, read-parts}
 
 -- ---- an identity where it stands
@@ -55,7 +55,7 @@ module _ (m : List ℕ) (p : Span) (v : List ℕ) (i : IdentityAt) (e : Stands v
 
   found : take size (drop (unfoldedAt from 0 raw) raw) ≡ numberIn v i
   found =
-      unfolded-part raw from size (ap (λ (x : List ℕ). any isGap (take size (drop from x))) (sym q) ∙ e .plain)
+      unfolded-part raw from size (ap (λ (x : List ℕ). any isGap (take size (drop from x))) (sym q) ∙ plain e)
       ∙ ap (λ (x : List ℕ). take size (drop from x)) (sym q)
 
   fits : unfoldedAt from 0 raw + size ≤ p .len

@@ -126,7 +126,7 @@ nothing-else m m′ c =
 pub same-column : SameColumn
 same-column m m′ c = varied-column (c .line) (c .fields) (c .fields′) (c .varied)
 
-alike : (m m′ : List ℕ) → Changed m m′ → judgement m′ ≡ judgement m
+pub alike : (m m′ : List ℕ) → Changed m m′ → judgement m′ ≡ judgement m
 unfolding judgement
 alike m m′ c =
     let r = nothing-else m m′ c in

@@ -46,11 +46,14 @@ global-no-gap : (s : List ℕ) → isGlobal s ≡ true → any isGap s ≡ false
 unfolding any isGap isBlank isBreak
 global-no-gap s e = ap (any isGap) (byte-start 43 s (global-digits s e .0)) ∙ digits-no-gap (drop 1 s) (global-digits s e .1)
 
--- ---- the identities of a value: no gap stands in a number
+-- ---- the identities of a value: each has a number, in which no gap stands
 
 pub record Stands (v : List ℕ) (i : IdentityAt) : Type 0 where
   pub within-bytes : i .start + i .len ≤ length v
-  pub plain : any isGap (numberIn v i) ≡ false
+  pub global : isGlobal (numberIn v i) ≡ true
+
+pub plain : {v : List ℕ} {i : IdentityAt} → Stands v i → any isGap (numberIn v i) ≡ false
+plain {v} {i} s = global-no-gap (numberIn v i) (s .global)
 
 pub data AllStand (v : List ℕ) : List IdentityAt → Type 0 where
   none-stands : AllStand v []
@@ -81,14 +84,14 @@ identity-stands n v = go (not (eqb (a .size) 0)) (isGlobal (person (a .uri) (dro
         let some-bytes : 0 < a .size = omega (arith, eqb-false (a .size) 0 (not-true _ p)) in
         record {
           within-bytes = omega (arith, address-within s some-bytes);
-          plain = rw number-is (global-no-gap (person (a .uri) (drop (a .at) s)) q);
+          global = rw number-is q;
         }
 
 -- and one that stands at its front
 first-stands : (v : List ℕ) (i : IdentityAt) → Stands v (after 0 i) → Stands v i
 first-stands v i s =
     let z : 0 + i .start ≡ i .start = omega arith in
-    record { within-bytes = omega (arith, s .within-bytes); plain = rw z at (s .plain) }
+    record { within-bytes = omega (arith, s .within-bytes); global = rw z at (s .global) }
 
 -- what is found in a value: nothing, an identity that fills it, or two that fill it with a comma between them
 abbrev pub comma : List ℕ → ℕ

@@ -108,7 +108,7 @@ module _ (m : List ℕ) (l : StatusLine) (h : Header) (e : lines m ≡ read (res
   -- what all columns of responses ignore is not among the kept fields
   module _ (n : ℕ) (i : ignored (some InviteSuccess) n ≡ true) (x : ignored (some CancelResponse) n ≡ true)
       (o : ignored (some OtherResponse) n ≡ true) where
-    all-ignore : (r : Passed) → judgement m ≡ accepted r → ignored column n ≡ true
+    pub all-ignore : (r : Passed) → judgement m ≡ accepted r → ignored column n ≡ true
     unfolding judgedResponse responseColumnOf
     all-ignore r q = go column (within 100 699 (statusOf l)) refl refl
       where

@@ -32,7 +32,7 @@ use Rattle.sip.proofs.Pairs.{differ, areAllowed, twoFields, anyWithhold
 use Rattle.sip.proofs.Pairs.{no-more, next, all-hold}
 
 -- what the rows compute with: whoever unfolds this unfolds all of it
-unfoldable computed : ℕ
+unfoldable pub computed : ℕ
 unfolding status cause statusEntries classEnds nextAbove rowOf statusOf causeEntries causeOf listed given among text isDigit isHex
     isToken isUser isParameter isHost isBlank isBreak isGap isValue isVisible run all starts escape runEscaped closes quoted decimal
     number lower same sameText isVersion requestLine isVersionFirst statusLine start startsCRLF startsBlank valueSize shape header any

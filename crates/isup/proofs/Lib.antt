@@ -1,0 +1,12 @@
+pub mod Codes
+pub mod Numbers
+pub mod Signals
+pub mod Encoding
+pub mod Decoding
+pub mod Back
+pub mod Only
+pub mod Initial
+pub mod Producing
+pub mod Promised
+pub mod Every
+pub mod Computed
