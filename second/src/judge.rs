@@ -18,6 +18,8 @@ pub struct Kept {
 #[derive(Clone, Debug)]
 pub struct Passed {
     pub start: Start,
+    /// The column it was judged by: for an INVITE whose To has a tag "re".
+    pub column: Column,
     pub fields: Vec<Kept>,
     /// The bytes after the empty line, cut to Content-Length where that is given.
     pub body: Vec<u8>,
@@ -60,8 +62,8 @@ pub fn judge(message: &[u8], side: u64) -> Result<Passed, Refusal> {
     judged.map_err(|found| refusal(found, &start))
 }
 
-/// Reasons 1 to 5: "Reply 0 means send nothing."
-fn silent(reason: u64) -> Refusal {
+/// A refusal with its reason alone: 1 to 5, "Reply 0 means send nothing", and those of the parameter (CR 7), "each is 0 where not said".
+pub fn silent(reason: u64) -> Refusal {
     Refusal { reason, reply: 0, detail: 0, missing: 0 }
 }
 

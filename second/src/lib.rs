@@ -10,13 +10,16 @@
 //!   then the message.
 //! - `second cases` reads such cases and prints for each one line: reason, reply, detail, missing count, length, and the Adler-32 sum of
 //!   the whole buffer, which was filled with A5 (hex) before.
+//! - `second isup-record` writes the recorded cases of the box for the old exchange (CR 7), `second isup-cases` reads such cases and prints one
+//!   line for each; `recorded::isup` says how both are written.
 //! - `second replay` reads records (CR 3) from standard input and prints the report that the replay program prints.
 //! - `second history` writes a file of records with every line and reason of such a report; `second history SEED [COUNT]` one with COUNT
 //!   drawn records among those (2,000 where it is not given).
 //! - `second causes` reads standard input and prints what the program `cause_map` prints for it (CR 4).
 //! - `second worked DIR` writes the worked texts of second/reviewed/replay.txt there, each with its reader's report.
-//! - `second/regenerate` stores the cases and their lines as crates/vectors/stdin and crates/vectors/stdout, and the records and their report
-//!   as crates/replay/stdin and crates/replay/stdout; and what `second causes` prints as the stdout of crates/cause_map and crates/cause_table.
+//! - `second/regenerate` stores the cases and their lines as crates/vectors/stdin and crates/vectors/stdout, those of CR 7 in
+//!   crates/isup_vectors, and the records and their report as crates/replay/stdin and crates/replay/stdout; and what `second causes` prints as
+//!   the stdout of crates/cause_map and crates/cause_table.
 //!
 //! `drafts` and `recorded` make messages; all other modules are the implementation.
 
@@ -25,6 +28,7 @@ pub mod causes;
 pub mod classes;
 pub mod drafts;
 pub mod identity;
+pub mod isup;
 pub mod judge;
 pub mod lines;
 pub mod output;

@@ -1,6 +1,8 @@
 //! `second screen [side] [room]`: one message from standard input.
 //! `second record`: writes the recorded cases to standard output.
 //! `second cases`: recorded cases from standard input, one line for each.
+//! `second isup-record`: writes the recorded cases of the box for the old exchange (CR 7) to standard output.
+//! `second isup-cases`: such cases from standard input, one line for each.
 //! `second replay`: records from standard input, the report of all.
 //! `second history [SEED [COUNT]]`: writes records to standard output, the fixed ones or those with COUNT drawn ones among them.
 //! `second causes`: a cause from standard input, its status, row and refusal; the whole table where nothing is given.
@@ -11,13 +13,13 @@ use std::io::{self, Read, Write};
 use std::path::Path;
 use std::process::exit;
 
-use second::recorded::{self, history, worked};
+use second::recorded::{self, history, isup, worked};
 use second::{causes, replay, screen, Verdict};
 
 const FILLING: u8 = 0xA5;
 
-const USE: &str = "use: second screen [side] [room] | second record | second cases | second replay | second history [SEED [COUNT]] \
-    | second causes | second worked DIR";
+const USE: &str = "use: second screen [side] [room] | second record | second cases | second isup-record | second isup-cases \
+    | second replay | second history [SEED [COUNT]] | second causes | second worked DIR";
 
 fn main() {
     let words: Vec<String> = std::env::args().skip(1).collect();
@@ -25,6 +27,8 @@ fn main() {
         Some("screen") => run_screen(&words[1..]),
         Some("record") => print(&recorded::file()),
         Some("cases") => run_cases(),
+        Some("isup-record") => print(&isup::file()),
+        Some("isup-cases") => run_isup_cases(),
         Some("replay") => standard_input().and_then(|text| print(replay::report(&text).as_bytes())),
         Some("history") => run_history(&words[1..]),
         Some("causes") => standard_input().and_then(|input| print(causes::printed(&input).as_bytes())),
@@ -101,6 +105,11 @@ fn run_cases() -> Result<(), String> {
         place = next;
     }
     out.flush().map_err(|e| e.to_string())
+}
+
+fn run_isup_cases() -> Result<(), String> {
+    let lines = isup::lines(&standard_input()?).map_err(|place| format!("no case at byte {place}"))?;
+    print(lines.as_bytes())
 }
 
 /// Side, room, message and the place of the next case.

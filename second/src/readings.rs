@@ -2,7 +2,7 @@
 
 use crate::classes::is_space;
 use crate::identity::Identity;
-use crate::judge;
+use crate::judge::{self, Passed};
 use crate::lines::{self, Field};
 use crate::profile;
 use crate::uri::{self, Scheme};
@@ -64,14 +64,15 @@ pub fn calling_number(message: &[u8], trunk: &[u8]) -> Part {
         Ok(passed) => passed,
         Err(_) => return EMPTY,
     };
-    match preferred(&judge::asserted(&passed.fields)) {
+    match calling_identity(&passed) {
         None => Part { from_trunk: true, start: 0, length: trunk.len() },
         Some(identity) => Part { from_trunk: false, start: identity.start, length: identity.length },
     }
 }
 
-/// CR 6: "The calling number comes from the sip one .. in either order"; else from the only one.
-fn preferred(all: &[Identity]) -> Option<Identity> {
+/// CR 6: "The calling number comes from the sip one .. in either order"; else from the only one. Its start is counted in the message.
+pub fn calling_identity(passed: &Passed) -> Option<Identity> {
+    let all = judge::asserted(&passed.fields);
     let sip = all.iter().find(|identity| identity.scheme == Scheme::Sip);
     sip.or(all.first()).copied()
 }

@@ -20,7 +20,7 @@ pub fn judge(lines: Lines, method: &[u8], uri: &[u8]) -> Result<Passed, Found> {
     hops(&fields)?;
     required_tags(&fields)?;
     called_number(uri, column)?;
-    Ok(Passed { start: lines.start, fields, body })
+    Ok(Passed { start: lines.start, column, fields, body })
 }
 
 /// Reason 7: "Request-URI scheme (all before the first colon) is a token but neither sip nor tel

@@ -17,7 +17,7 @@ pub fn judge(lines: Lines, code: &[u8]) -> Result<Passed, Found> {
     judge::malformed(&fields, method)?;
     let body = judge::cut_body(&fields, &lines.rest)?;
     judge::missing(&fields, column, body.is_empty())?;
-    Ok(Passed { start: lines.start, fields, body })
+    Ok(Passed { start: lines.start, column, fields, body })
 }
 
 /// None is reason 6: "an absent or malformed first CSeq or an unknown method".

@@ -150,6 +150,11 @@ fn stored_cases_are_up_to_date() {
 }
 
 #[test]
+fn stored_cases_of_the_parameter_are_up_to_date() {
+    stored_files_are_up_to_date("isup_vectors", "isup-record", "isup-cases");
+}
+
+#[test]
 fn stored_records_are_up_to_date() {
     stored_files_are_up_to_date("replay", "history", "replay");
 }

@@ -2,6 +2,7 @@
 //!
 //! `second record` writes them, `second cases` says their answers. A case is one byte for the side, two bytes for the room and two for
 //! the length of the message (high byte first), then the message. `second/regenerate` stores both in crates/vectors of the repository.
+//! Those of the box for the old exchange (CR 7) are other ones: see `isup`.
 
 pub mod callers;
 pub mod calling;
@@ -9,6 +10,7 @@ mod columns;
 mod edges;
 pub mod history;
 pub mod identities;
+pub mod isup;
 mod outside;
 mod outside_responses;
 mod privacy;

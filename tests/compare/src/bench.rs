@@ -1,10 +1,11 @@
-//! The library and the second implementation, side by side.
+//! The library and the second implementation, side by side; the box for the old exchange is compared in `isup`.
 
 use crate::callers::Callers;
 use crate::counts::{Call, Counts, Kind, Met};
 use crate::differences::{escaped, same, same_bytes, within};
 use crate::guarded::{Against, Guarded};
 use crate::identities::Asserted;
+use crate::isup::Isup;
 use crate::privacy::Asked;
 use crate::replay::Replay;
 use crate::watch::NOW;
@@ -26,6 +27,7 @@ pub struct Bench {
     trunk: Guarded,
     out: Guarded,
     replay: Replay,
+    isup: Isup,
     pub counts: Counts,
 }
 
@@ -41,7 +43,7 @@ struct Lent {
 impl Bench {
     pub fn new() -> Bench {
         let [message, trunk, out] = [MOST_MESSAGE, MOST_TRUNK, MOST_ROOM].map(Guarded::new);
-        Bench { message, trunk, out, replay: Replay::new(), counts: Counts::new() }
+        Bench { message, trunk, out, replay: Replay::new(), isup: Isup::new(), counts: Counts::new() }
     }
 
     /// All that is not drawn.
@@ -55,6 +57,7 @@ impl Bench {
         }
         self.odd_phrases();
         self.replay.fixed(&mut self.counts);
+        self.isup.fixed(&mut self.counts);
     }
 
     /// The recorded cases, each against the end and the start of the pages.
@@ -126,6 +129,7 @@ impl Bench {
         self.readings(dice, &message, lent.against);
         self.calling(dice, &message, lent.against);
         self.replay.one(&mut self.counts, dice, &message, lent.side, lent.against);
+        self.isup.one(&mut self.counts, dice, &message, lent.against);
         causes::one(&mut self.counts, dice);
         if dice.one_in(12) {
             self.two_callers(dice);
@@ -256,14 +260,13 @@ impl Bench {
     /// Harmless fields and other names: the same numbers and the same buffer.
     fn demand_3(&mut self, dice: &mut Dice, draft: &Draft, message: &[u8]) {
         let changed = messages::changed(dice, draft).bytes();
-        // A fault can leave an empty line inside a drafted field; what comes after it is body, and no longer a field to be renamed.
-        let as_drafted = |bytes: &[u8]| second::lines::read(bytes).is_ok_and(|lines| lines.rest == draft.body);
-        if !as_drafted(message) || !as_drafted(&changed) {
+        if !messages::are_as_drafted(draft, [message, &changed]) {
             return;
         }
         self.counts.call(if Kind::of(draft) == Kind::Request { Call::ChangedRequest } else { Call::ChangedResponse });
         let lent = self.lent(dice, message);
         self.same_answer("names and extra fields changed", message, &changed, lent);
+        self.isup.changed(&mut self.counts, dice, message, &changed, lent.against);
     }
 
     /// Two withheld callers (CR 5): the same numbers and the same buffer. Where nobody hides them, the buffers mostly differ.
@@ -274,7 +277,7 @@ impl Bench {
         let lent = self.lent_on(dice, 1, &one);
         let numbers = self.same_answer("another caller who is withheld", &one, &other, lent);
         self.counts.call(Call::TwoCallers);
-        self.counts.callers(numbers[0]);
+        self.counts.reason_alone(Kind::Callers, numbers[0]);
         callers.count(&mut self.counts, numbers, lent.room);
         if numbers[0] == 0 {
             let lent = Lent { room: 9216, ..lent };

@@ -1,7 +1,8 @@
-//! Causes and statuses (CR 4), library against second implementation.
+//! Causes and statuses (CR 4), and the trunk's causes (CR 7), libraries against second implementation.
 
 use crate::counts::{Call, Counts, Met};
 use crate::differences::same;
+use crate::isup_library;
 use crate::library::{self, BEFORE};
 use crate::watch::NOW;
 use second::causes::Answer;
@@ -55,7 +56,7 @@ fn stood(dice: &mut Dice) -> u64 {
     if dice.one_in(2) { dice.below(128) as u64 } else { dice.number() }
 }
 
-/// One number as a cause and as a status.
+/// One number as a cause, as a status, and as a cause from the trunk.
 fn both(met: &mut Counts, number: u64, before: [u64; 2]) -> Answer {
     met.call(Call::StatusOfCause);
     met.call(Call::CauseOfStatus);
@@ -65,5 +66,9 @@ fn both(met: &mut Counts, number: u64, before: [u64; 2]) -> Answer {
     NOW.set("cause_of_status", b"");
     let cause = library::cause_of_status(number, before[1]);
     same("cause_of_status (cause, refusal)", &cause, &second::cause_of_status(number), &[], &format!("status {number}, before {}", before[1]));
+    met.call(Call::IsupStatus);
+    NOW.set("isup_status", b"");
+    let status = isup_library::status(number, before[1]);
+    same("isup_status (status, refusal)", &status, &second::isup::status(number), &[], &format!("cause {number}, before {}", before[1]));
     answer
 }

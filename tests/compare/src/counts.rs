@@ -4,15 +4,19 @@ use second::drafts::Draft;
 use second::profile::{Column, COLUMNS};
 use second::start::Start;
 use second::{judge, lines};
+use std::ops::RangeInclusive;
 use std::process::exit;
 
-/// What a message was drawn as; two callers (CR 5) are counted once.
+/// What a message was drawn as; two callers (CR 5) are counted once. Then what a parameter was to be made of, and bytes to be read as one
+/// (CR 7).
 #[derive(Clone, Copy, Debug, PartialEq)]
 pub enum Kind {
     Request,
     Response,
     Noise,
     Callers,
+    Parameter,
+    Bytes,
 }
 
 impl Kind {
@@ -24,13 +28,17 @@ impl Kind {
     }
 }
 
-const REASONS: usize = 18;
-const KINDS: usize = 4;
+/// One more than the highest reason or refusal, and those that are printed.
+const REASONS: usize = 48;
+const PRINTED: [RangeInclusive<usize>; 2] = [0..=17, 41..=47];
+const KINDS: usize = 6;
 
 /// The reasons that each kind must meet. At 3 and before it there is no kind yet; it is that of what was drawn.
 const OF_REQUESTS: [usize; 17] = [0, 1, 2, 3, 4, 5, 6, 7, 8, 9, 10, 11, 12, 13, 14, 15, 16];
 const OF_RESPONSES: [usize; 13] = [0, 1, 2, 3, 4, 5, 6, 9, 10, 11, 12, 16, 17];
 const OF_CALLERS: [usize; 12] = [0, 5, 7, 8, 9, 10, 11, 12, 13, 14, 15, 16];
+const OF_PARAMETERS: [usize; 18] = [0, 2, 3, 4, 5, 6, 7, 8, 9, 10, 11, 12, 13, 14, 15, 17, 41, 42];
+const OF_BYTES: [usize; 7] = [0, 41, 43, 44, 45, 46, 47];
 
 macro_rules! counted {
     ($name:ident, $names:ident: $($variant:ident = $text:literal),+ $(,)?) => {
@@ -50,12 +58,17 @@ counted!(Call, CALLS:
     Report = "report",
     StatusOfCause = "status_of_cause",
     CauseOfStatus = "cause_of_status",
+    IsupParameter = "isup_parameter",
+    IsupCaller = "isup_caller",
+    IsupStatus = "isup_status",
     ChangedRequest = "screen, names and extra fields of a request changed",
     ChangedResponse = "screen, names and extra fields of a response changed",
     TwoCallers = "screen, two withheld callers",
     Recorded = "screen, recorded cases",
     ReviewedCalling = "calling_number, worked cases of a reader",
     OddByte = "screen, an odd byte at every place",
+    IsupRecorded = "isup_parameter, isup_caller: recorded cases",
+    IsupChanged = "isup_parameter, names and extra fields changed",
 );
 
 counted!(Met, METS:
@@ -154,6 +167,39 @@ counted!(Met, METS:
     CauseCut = "drawn cause over 32 bits whose low 32 bits are a cause, refused",
     RowStood = "status_of_cause: another cause stood where the row goes",
     RefusalStood = "status_of_cause: 21 stood where 0 goes",
+    MadeNationalOdd = "parameter: national, an odd number of digits",
+    MadeNationalEven = "parameter: national, an even number of digits",
+    MadeInternationalOdd = "parameter: international, an odd number of digits",
+    MadeInternationalEven = "parameter: international, an even number of digits",
+    MadeAllowed = "parameter: presentation allowed",
+    MadeRestricted = "parameter: presentation restricted",
+    MadeAbroad = "parameter: of our code, not at home",
+    MadeOfAnother = "parameter: at home, of another code",
+    MadeOfNearlyOurs = "parameter: at home, of a code that is ours in part",
+    MadeByAnyFlag = "parameter: national, by a flag over 1",
+    MadeByHighFlag = "parameter: national, by a flag whose low 32 bits are 0",
+    MadeWithZero = "parameter: national, a 0 behind the code",
+    MadeShortest = "parameter: of 4 bytes",
+    MadeLongest = "parameter: of 10 bytes",
+    MadeFoldedIdentity = "parameter: of a folded identity",
+    MadeFoldedTo = "parameter: of an INVITE whose To is folded",
+    MadeOfTwo = "parameter: of two identity fields",
+    MadeOfChanged = "parameter: the same with names and extra fields changed",
+    ScreenBefore41 = "parameter: refused by the screen, the country code bad too",
+    NoInviteBefore41 = "parameter: refused with 42, the country code bad too",
+    LaterInvite = "parameter: refused with 42, an INVITE whose To has a tag",
+    ResponseTo42 = "parameter: refused with 42, a response",
+    TakenNational = "caller: taken, national",
+    TakenInternational = "caller: taken, international",
+    TakenWithId = "caller: taken, with id",
+    TakenWithoutId = "caller: taken, without id",
+    CutAtTwo = "caller: cut short, of two bytes",
+    Unused41 = "caller: refused for a country code that is not used",
+    LeadingZero = "caller: refused with 47, international with a 0 in front",
+    CodeTooMuch = "caller: refused with 47, too long with the country code alone",
+    CodeTooLittle = "caller: refused with 47, too short even with the country code",
+    LongOver9 = "caller: refused with 46, over 20 bytes",
+    LongNumber = "caller: refused with 47, over 20 bytes",
 );
 
 pub struct Counts {
@@ -190,9 +236,9 @@ impl Counts {
         }
     }
 
-    /// Two callers and the reason of both.
-    pub fn callers(&mut self, reason: u64) {
-        self.reasons[Kind::Callers as usize][reason as usize] += 1;
+    /// The reason of two callers, of a parameter, or the refusal of bytes.
+    pub fn reason_alone(&mut self, kind: Kind, reason: u64) {
+        self.reasons[kind as usize][reason as usize] += 1;
     }
 
     /// Prints all; from 100,000 messages on, what was never met fails.
@@ -201,10 +247,10 @@ impl Counts {
         for (name, calls) in CALLS.iter().zip(&self.calls) {
             println!("{calls:>12}  {name}");
         }
-        println!("      reason    requests   responses       noise two callers");
-        for reason in 0..REASONS {
-            let [requests, responses, noise, callers] = [0, 1, 2, 3].map(|kind| self.reasons[kind][reason]);
-            println!("{reason:>12}{requests:>12}{responses:>12}{noise:>12}{callers:>12}");
+        println!("      reason    requests   responses       noise two callers  parameters       bytes");
+        for reason in PRINTED.into_iter().flatten() {
+            let numbers: String = self.reasons.iter().map(|kind| format!("{:>12}", kind[reason])).collect();
+            println!("{reason:>12}{numbers}");
         }
         for (column, messages) in COLUMNS.iter().zip(&self.accepted).filter(|(&column, _)| column != Column::Re) {
             println!("{messages:>12}  accepted in column {column:?}");
@@ -224,6 +270,7 @@ impl Counts {
             due.iter().filter(|&&reason| self.reasons[kind as usize][reason] == 0).map(|reason| format!("reason {reason} of a {kind:?}")).collect()
         };
         let mut never = [missed(Kind::Request, &OF_REQUESTS), missed(Kind::Response, &OF_RESPONSES), missed(Kind::Callers, &OF_CALLERS)].concat();
+        never.extend([missed(Kind::Parameter, &OF_PARAMETERS), missed(Kind::Bytes, &OF_BYTES)].concat());
         // Both columns of INVITE are counted as the first.
         let columns = COLUMNS.iter().zip(&self.accepted).filter(|(&column, &messages)| column != Column::Re && messages == 0);
         never.extend(columns.map(|(column, _)| format!("column {column:?}")));

@@ -1,4 +1,4 @@
-//! Compares every function of libmishkolar.a with the second implementation. See `run` beside this folder.
+//! Compares every function of libmishkolar.a and libmishkolar_isup.a with the second implementation. See `run` beside this folder.
 
 mod bench;
 mod callers;
@@ -7,6 +7,8 @@ mod counts;
 mod differences;
 mod guarded;
 mod identities;
+mod isup;
+mod isup_library;
 mod library;
 mod messages;
 mod privacy;

@@ -162,7 +162,7 @@ fn from(dice: &mut Dice, tag: &[u8]) -> Vec<u8> {
 }
 
 /// Identities that CR 6 allows, for so many fields: in one field one or two, in two fields one in each, the first of either scheme.
-fn allowed(dice: &mut Dice, fields: usize) -> Vec<Vec<u8>> {
+pub fn allowed(dice: &mut Dice, fields: usize) -> Vec<Vec<u8>> {
     let first = any_scheme(dice);
     let [one, two] = [first, other(first)].map(|scheme| identity(dice, scheme));
     let all = match fields {

@@ -37,6 +37,12 @@ fn any_value(dice: &mut Dice) -> Vec<u8> {
     out
 }
 
+/// Whether both messages have their empty line where the draft has it. A fault can leave one inside a drafted field; what comes after it is
+/// body, and no longer a field to be renamed.
+pub fn are_as_drafted(draft: &Draft, messages: [&[u8]; 2]) -> bool {
+    messages.iter().all(|bytes| lines::read(bytes).is_ok_and(|lines| lines.rest == draft.body))
+}
+
 /// The same message with harmless fields added anywhere and names rewritten: each original field keeps every byte after its name.
 pub fn changed(dice: &mut Dice, draft: &Draft) -> Draft {
     let listed = ignored_names(draft);

@@ -8,12 +8,13 @@ mod faults;
 mod folds;
 mod identities;
 mod odd;
+pub mod parameters;
 mod relay;
 pub mod texts;
 mod values;
 
 pub use callers::{shown, two_callers};
-pub use change::changed;
+pub use change::{are_as_drafted, changed};
 pub use damage::{cut_in_a_name, damage, noise};
 pub use odd::{carrying, phrased, CARRIERS, ODD_BYTES};
 
