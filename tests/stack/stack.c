@@ -1,4 +1,7 @@
-/* Calls every function of include/mishkolar.h on a stack of SIZE bytes against a page that must not be touched. See `run` beside it. */
+/*
+ * Calls every function of include/mishkolar.h and include/mishkolar_isup.h on a stack of as many bytes as its header says, against a page that
+ * must not be touched. See `run` beside it.
+ */
 #include <stdio.h>
 #include <stdlib.h>
 #include <string.h>
@@ -9,9 +12,15 @@
 
 #include "messages.h"
 #include "mishkolar.h"
+#include "mishkolar_isup.h"
 
-#ifndef SIZE
-#define SIZE MISHKOLAR_STACK
+/* The size for each library; for a trial another for both. */
+#ifdef SIZE
+#define SCREEN_SIZE SIZE
+#define ISUP_SIZE SIZE
+#else
+#define SCREEN_SIZE MISHKOLAR_STACK
+#define ISUP_SIZE MISHKOLAR_ISUP_STACK
 #endif
 /* On this one the use is measured. */
 #define PLENTY 32768
@@ -20,7 +29,8 @@
 #define ROOM 16384
 #define MOST_TOLD 5
 
-_Static_assert(SIZE % 16 == 0 && SIZE > 0 && SIZE <= PLENTY, "a stack pointer is a multiple of 16 at a call");
+_Static_assert(SCREEN_SIZE % 16 == 0 && SCREEN_SIZE > 0 && SCREEN_SIZE <= PLENTY, "a stack pointer is a multiple of 16 at a call");
+_Static_assert(ISUP_SIZE % 16 == 0 && ISUP_SIZE > 0 && ISUP_SIZE <= PLENTY, "a stack pointer is a multiple of 16 at a call");
 
 /*
  * Calls the function with the stack pointer at top. The seventh and later arguments already stand there; what the call itself pushes and
@@ -65,11 +75,15 @@ static struct stack new_stack(size_t size)
     return (struct stack){ all + FORBIDDEN, all + FORBIDDEN + size };
 }
 
-/* What a child tells: the message and call under way, the largest use so far and at which call, the reasons met, and that all was tried. */
+/*
+ * What a child tells: the message and call under way, the largest use so far and at which call, the reasons and refusals met (a bit for each),
+ * and that all was tried.
+ */
 struct note {
     char doing[200], most_at[200];
     size_t place, most;
-    unsigned reason, reasons;
+    unsigned reason;
+    uint64_t met;
     int on_tight, ended;
 };
 
@@ -78,12 +92,12 @@ static struct note *note;
 /* One call: a function with its arguments. */
 struct call {
     const void *function;
-    uint64_t arguments[9];
+    uint64_t arguments[10];
 };
 
 static uint64_t done_on(const struct stack *stack, const struct call *call)
 {
-    memcpy(stack->top, call->arguments + 6, 3 * sizeof call->arguments[0]);
+    memcpy(stack->top, call->arguments + 6, 4 * sizeof call->arguments[0]);
     return call_at(stack->top, call->function, call->arguments);
 }
 
@@ -124,6 +138,7 @@ static void try(const struct call *call)
 
 #define NUMBER(x) ((uint64_t)(uintptr_t)(x))
 #define DOING(...) snprintf(note->doing, sizeof note->doing, __VA_ARGS__)
+#define MET(number) (1ull << (number))
 
 static uint8_t out[ROOM];
 static uint64_t answers[4];
@@ -142,7 +157,7 @@ static void try_screen(const struct message *m)
             struct call call = { mishkolar_screen, { NUMBER(m->bytes), m->len, sides[i], NUMBER(out), rooms[j], NUMBER(answers), NUMBER(answers + 1), NUMBER(answers + 2), NUMBER(answers + 3) } };
             DOING("%s, side %d, room %zu", m->name, (int)sides[i], rooms[j]);
             try(&call);
-            note->reasons |= 1u << answers[0];
+            note->met |= MET(answers[0]);
         }
     }
 }
@@ -264,6 +279,7 @@ static void try_causes(const void *function, size_t pointers)
         struct call call = { function, { number < 990 ? number : UINT64_MAX - number, NUMBER(answers), pointers == 2 ? NUMBER(answers + 1) : 0 } };
         DOING("%lld", (long long)call.arguments[0]);
         try(&call);
+        note->met |= MET(answers[pointers - 1]);
     }
 }
 
@@ -279,21 +295,92 @@ static void try_cause_of_status(const struct message *m)
     try_causes(mishkolar_cause_of_status, 1);
 }
 
-/* Every function of the header; the report and those of causes take no message. */
+/* Country codes: those of numbers here and others, and bad ones. */
+static const char *const codes[] = { "33", "331", "1", "0", "3333", "" };
+#define CODES (sizeof codes / sizeof codes[0])
+
+static void try_isup_parameter(const struct message *m)
+{
+    size_t i, home;
+
+    for (i = 0; i < CODES; i++)
+        for (home = 0; home < 2; home++) {
+            struct call call = { mishkolar_isup_parameter, { NUMBER(m->bytes), m->len, NUMBER(codes[i]), strlen(codes[i]), home,
+                NUMBER(out), NUMBER(answers), NUMBER(answers + 1), NUMBER(answers + 2), NUMBER(answers + 3) } };
+            DOING("%s, code \"%s\", home %zu", m->name, codes[i], home);
+            try(&call);
+            note->met |= MET(answers[0]);
+        }
+}
+
+/* The first bytes of the text as a parameter field. */
+static void try_field(size_t len)
+{
+    size_t i;
+
+    for (i = 0; i < CODES; i++) {
+        struct call call = { mishkolar_isup_caller, { NUMBER(text), len, NUMBER(codes[i]), strlen(codes[i]),
+            NUMBER(out), NUMBER(answers), NUMBER(answers + 1) } };
+        DOING("%zu bytes %02x %02x %02x .. %02x, code \"%s\"", len, text[0], text[1], text[2], text[len == 0 ? 0 : len - 1], codes[i]);
+        try(&call);
+        note->met |= MET(answers[1]);
+    }
+}
+
+/* Fields cut short; good and bad indicators with none, few and many address signals, digits and others, the last half a filler of 0 or not. */
+static void try_isup_caller(const struct message *m)
+{
+    static const uint8_t heads[][2] = { { 0x03, 0x13 }, { 0x04, 0x17 }, { 0x83, 0x17 }, { 0x84, 0x13 }, { 0x05, 0x13 }, { 0x04, 0x93 },
+        { 0x84, 0x23 }, { 0x03, 0x1b }, { 0x83, 0x12 } };
+    static const uint8_t pieces[] = { 0x21, 0x10, 0x00, 0x99, 0x0a, 0xa1 };
+    static const size_t lengths[] = { 0, 1, 2, 3, 4, 5, 6, 7, 8, 9, 10, 11, 19, 100, 8192, 65535 };
+    size_t i, j, k;
+
+    (void)m;
+    for (i = 0; i < sizeof heads / sizeof heads[0]; i++)
+        for (j = 0; j < sizeof pieces; j++)
+            for (k = 0; k < sizeof lengths / sizeof lengths[0]; k++) {
+                memset(text, pieces[j], sizeof text);
+                memcpy(text, heads[i], sizeof heads[i]);
+                try_field(lengths[k]);
+                if (lengths[k] > 2) {
+                    text[lengths[k] - 1] &= 0x0f;
+                    try_field(lengths[k]);
+                }
+            }
+}
+
+static void try_isup_status(const struct message *m)
+{
+    (void)m;
+    try_causes(mishkolar_isup_status, 1);
+}
+
+/* The screen's reasons; what comes out of a parameter, which has neither 1 nor 16; and out of a parameter field. */
+#define REASONS (MET(18) - 1)
+#define WRITTEN ((REASONS & ~(MET(1) | MET(16))) | MET(41) | MET(42))
+#define READ (MET(0) | MET(41) | MET(43) | MET(44) | MET(45) | MET(46) | MET(47))
+
+/* Every function of both headers; the report, a field and causes are no messages. What each must have met, where it tells a reason or a refusal. */
 static const struct {
     const char *name;
     void (*try)(const struct message *m);
     int of_messages;
+    size_t size;
+    uint64_t met;
 } functions[] = {
-    { "mishkolar_screen", try_screen, 1 },
-    { "mishkolar_count", try_count, 1 },
-    { "mishkolar_reading", try_reading, 1 },
-    { "mishkolar_calling_number", try_calling_number, 1 },
-    { "mishkolar_take_record", try_take_record, 1 },
-    { "mishkolar_replay", try_replay, 1 },
-    { "mishkolar_report", try_report, 0 },
-    { "mishkolar_status_of_cause", try_status_of_cause, 0 },
-    { "mishkolar_cause_of_status", try_cause_of_status, 0 },
+    { "mishkolar_screen", try_screen, 1, SCREEN_SIZE, REASONS },
+    { "mishkolar_count", try_count, 1, SCREEN_SIZE, 0 },
+    { "mishkolar_reading", try_reading, 1, SCREEN_SIZE, 0 },
+    { "mishkolar_calling_number", try_calling_number, 1, SCREEN_SIZE, 0 },
+    { "mishkolar_take_record", try_take_record, 1, SCREEN_SIZE, 0 },
+    { "mishkolar_replay", try_replay, 1, SCREEN_SIZE, 0 },
+    { "mishkolar_report", try_report, 0, SCREEN_SIZE, 0 },
+    { "mishkolar_status_of_cause", try_status_of_cause, 0, SCREEN_SIZE, MET(0) | MET(21) },
+    { "mishkolar_cause_of_status", try_cause_of_status, 0, SCREEN_SIZE, MET(0) | MET(22) },
+    { "mishkolar_isup_parameter", try_isup_parameter, 1, ISUP_SIZE, WRITTEN },
+    { "mishkolar_isup_caller", try_isup_caller, 0, ISUP_SIZE, READ },
+    { "mishkolar_isup_status", try_isup_status, 0, ISUP_SIZE, MET(0) | MET(21) },
 };
 #define FUNCTIONS (sizeof functions / sizeof functions[0])
 
@@ -339,19 +426,27 @@ static size_t failures_of(size_t function)
 {
     size_t count = functions[function].of_messages ? message_count : 1, failed = 0, place = 0;
 
+    tight = new_stack(functions[function].size);
     note->most = 0;
+    note->met = 0;
     note->ended = 0;
     while (place < count) {
         int number = in_child(function, place, count);
         if (note->ended)
             break;
         if (failed++ < MOST_TOLD && number != 0)
-            printf("%s FAILED (signal %d) on a stack of %d bytes: %s\n", functions[function].name, number, note->on_tight == 1 ? SIZE : PLENTY, note->doing);
+            printf("%s FAILED (signal %d) on a stack of %zu bytes: %s\n", functions[function].name, number,
+                   note->on_tight == 1 ? functions[function].size : PLENTY, note->doing);
         place = note->place + 1;
     }
     printf("%-26s %6zu bytes at most, at: %s\n", functions[function].name, note->most, note->most_at);
     if (failed != 0)
         printf("%-26s FAILED on %zu of %zu inputs\n", functions[function].name, failed, count);
+    if (note->met != functions[function].met) {
+        printf("%-26s FAILED: of its reasons and refusals it met the bits %#llx, not %#llx\n", functions[function].name,
+               (unsigned long long)note->met, (unsigned long long)functions[function].met);
+        failed++;
+    }
     return failed;
 }
 
@@ -363,20 +458,15 @@ int main(int argc, char **argv)
     make_messages();
     for (i = 1; i < argc; i++)
         read_recorded(argv[i]);
-    tight = new_stack(SIZE);
     plenty = new_stack(PLENTY);
     note = mmap(NULL, sizeof *note, PROT_READ | PROT_WRITE, MAP_SHARED | MAP_ANONYMOUS, -1, 0);
     if (note == MAP_FAILED) {
         perror("mmap");
         return 2;
     }
-    printf("a stack of %d bytes, %zu messages\n", SIZE, message_count);
+    printf("a stack of %d bytes, of the box %d, %zu messages\n", SCREEN_SIZE, ISUP_SIZE, message_count);
     for (function = 0; function < FUNCTIONS; function++)
         failures += failures_of(function);
-    if (note->reasons != (1u << 18) - 1) {
-        printf("not every reason was met\n");
-        failures++;
-    }
     printf(failures == 0 ? "no function took more\n" : "FAILED\n");
     return failures != 0;
 }
