@@ -8,7 +8,13 @@
  *   count       its count of Via
  *   reading     its reading of the first Via
  *   record      its counting of the message as one record
- * Buffers are not cleared between the calls. Every call is done once before it is measured.
+ *   home        the second library's parameter of the message with the code 33, the next node at home
+ *   home-back   its caller of that parameter
+ *   abroad      its parameter where the next node is not at home
+ *   abroad-back its caller of that parameter
+ *   status      its status of the cause 17
+ * Buffers are not cleared between the calls. Every call is done once before it is measured. The second library's answers for the messages
+ * named `call` and `invite` must be right before anything of them is measured.
  *
  * use: measure count FILE...    one call of a measured_ function for each printed line, with a dump by callgrind that has its number
  *      measure time FILE...     prints the median nanoseconds of one call
@@ -30,9 +36,11 @@
 #include <valgrind/callgrind.h>
 
 #include "mishkolar.h"
+#include "mishkolar_isup.h"
 
 #define SIDE 1
 #define VIA_NUMBER 1
+#define CAUSE 17
 #define BATCHES 201
 #define BATCH_NANOSECONDS 50000
 
@@ -121,6 +129,54 @@ __attribute__((noinline)) size_t measured_record(void)
     return (size_t)read;
 }
 
+static const uint8_t code[] = { '3', '3' };
+/* The last parameter, which the next caller is read from. */
+static uint8_t parameter[MISHKOLAR_ISUP_PARAMETER];
+static size_t parameter_len;
+static uint8_t caller[MISHKOLAR_ISUP_NUMBER];
+static uint64_t id;
+
+__attribute__((noinline)) size_t measured_home(void)
+{
+    uint64_t reason, reply, detail, missing;
+    return parameter_len = mishkolar_isup_parameter(message, len, code, sizeof code, 1, parameter, &reason, &reply, &detail, &missing);
+}
+
+__attribute__((noinline)) size_t measured_abroad(void)
+{
+    uint64_t reason, reply, detail, missing;
+    return parameter_len = mishkolar_isup_parameter(message, len, code, sizeof code, 0, parameter, &reason, &reply, &detail, &missing);
+}
+
+__attribute__((noinline)) size_t measured_back(void)
+{
+    uint64_t refusal;
+    return mishkolar_isup_caller(parameter, parameter_len, code, sizeof code, caller, &id, &refusal);
+}
+
+__attribute__((noinline)) size_t measured_status(void)
+{
+    uint64_t refusal;
+    return (size_t)mishkolar_isup_status(CAUSE, &refusal);
+}
+
+/* Whether the parameter is the wanted one, and gives the caller of the message back, withheld. */
+static int is_given(size_t (*call)(void), const char *wanted)
+{
+    static const char number[] = "+33187654321";
+
+    memset(parameter, 0, sizeof parameter);
+    memset(caller, 0, sizeof caller);
+    return call() == strlen(wanted) && memcmp(parameter, wanted, strlen(wanted)) == 0
+        && measured_back() == strlen(number) && memcmp(caller, number, strlen(number)) == 0 && id == 1;
+}
+
+static int is_right(void)
+{
+    return is_given(measured_home, "\x83\x17\x81\x67\x45\x23\x01")
+        && is_given(measured_abroad, "\x84\x17\x33\x81\x67\x45\x23\x01") && measured_status() == 486;
+}
+
 static const struct {
     const char *name;
     size_t (*call)(void);
@@ -133,6 +189,11 @@ static const struct {
     { "count", measured_count },
     { "reading", measured_reading },
     { "record", measured_record },
+    { "home", measured_home },
+    { "home-back", measured_back },
+    { "abroad", measured_abroad },
+    { "abroad-back", measured_back },
+    { "status", measured_status },
 };
 
 static double nanoseconds(void)
@@ -193,12 +254,17 @@ int main(int argc, char **argv)
     osip_trace_initialize_func(TRACE_LEVEL0, say_nothing);
     for (place = 2; place < argc; place++) {
         FILE *file = fopen(argv[place], "rb");
+        const char *slash = strrchr(argv[place], '/'), *base = slash == NULL ? argv[place] : slash + 1;
         if (file == NULL) {
             perror(argv[place]);
             return 1;
         }
         len = fread(message, 1, sizeof message, file);
         fclose(file);
+        if ((strcmp(base, "call") == 0 || strcmp(base, "invite") == 0) && !is_right()) {
+            fprintf(stderr, "%s: the second library's answers are not right\n", argv[place]);
+            return 1;
+        }
         for (i = 0; i < sizeof tasks / sizeof tasks[0]; i++) {
             /* The first call warms up. */
             size_t taken = tasks[i].call();

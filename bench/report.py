@@ -26,10 +26,13 @@ WORDS = {
     "fields": "96 fields", "empty": "80 empty fields",
     "refused-3": "the INVITE refused early: start line", "refused-4": "refused in the middle: a field without colon", "refused-12": "refused late: no Allow",
     "calling": "calling number", "count": "count of Via", "reading": "reading of the first Via",
+    "home": "parameter at home", "abroad": "parameter not at home", "home-back": "caller of the parameter at home",
+    "abroad-back": "caller of the parameter not at home", "status": "status of cause 17",
 }
 CALLS = ["call", "call-200", "call-180", "call-two", "call-fields", "invite", "invite-200", "refused-3", "refused-4", "refused-12"]
-# Tasks of the library alone, and those that judge: a refusal is their answer.
-ALONE = ["calling", "count", "reading"]
+# Tasks of the libraries alone; those that read no message, with the bytes that they read; and those that judge: a refusal is their answer.
+ALONE = ["calling", "count", "reading", "home", "abroad"]
+BACK = {"home-back": 7, "abroad-back": 8, "status": 0}
 JUDGES = ["mishkolar", "second"]
 # The most that one record of the call may take, in screenings of it.
 MOST_FOR_A_RECORD = 1.5
@@ -88,11 +91,15 @@ def row_of_all(result, folder, message, key):
     return cells + [ratio(result, message, name, key) for name in NAMES[1:]]
 
 
+def row_of_own(title, size, own):
+    """A function of one of the libraries alone: the other cells are empty."""
+    each = "-" if own is None else f"{own / size:.1f}" if size else ""
+    return [title, f"{size:,}" if size else "", number(own)] + [""] * 3 + [each] + [""] * 3
+
+
 def row_of_alone(result, folder, message, task, key):
-    """A function of the library alone: the other cells are empty."""
     size = os.path.getsize(os.path.join(folder, message))
-    own = result[(message, task, key)]
-    return [f"{WORDS[task]}: {words(message)}", f"{size:,}", number(own)] + [""] * 3 + ["-" if own is None else f"{own / size:.1f}"] + [""] * 3
+    return row_of_own(f"{WORDS[task]}: {words(message)}", size, result[(message, task, key)])
 
 
 def table(result, folder, key):
@@ -102,6 +109,7 @@ def table(result, folder, key):
     ]
     rows = [row_of_all(result, folder, message, key) for message in CALLS]
     rows += [row_of_alone(result, folder, message, task, key) for task in ALONE for message in ("call", "invite")]
+    rows += [row_of_own(WORDS[task], size, result[("call", task, key)]) for task, size in BACK.items()]
     shaped = ["empty"] + [f"{shape}-{length}" for shape in SHAPES for length in LENGTHS]
     rows += [row_of_all(result, folder, message, key) for message in shaped]
     return lines + ["| " + " | ".join(cells) + " |" for cells in rows]
