@@ -17,7 +17,7 @@ use Rattle.judgement.specs.declared.ColumnOf.{ColumnOf}
 use Rattle.judgement.specs.declared.ColumnOf.the-variants.{Is, Unknown}
 use Rattle.judgement.specs.declared.Judged.{Judged}
 use Rattle.judgement.specs.Sets.{columnAt}
-use Rattle.judgement.specs.Entries.{cseqSlot}
+use Rattle.judgement.specs.Entries.{firstSlot}
 use Rattle.judgement.specs.Judged.{judgedFrom, requestBy, responseBy, judgedBy, requestAs, requestLines, statusAt, methodAt, responseAs, responseTo, responseLines}
 use Rattle.judgement.specs.Judged.{judgedLines, judgedMessage}
 
@@ -45,7 +45,7 @@ module _ (m : List ℕ) where
   read-counts : Counts (judgedLines m (index m .slots) (index m .head))
   unfolding judgedLines requestLines responseLines responseTo
   read-counts =
-      let method = methodAt m (cseqSlot (index m .slots) (index m .head .count) 0) in
+      let method = methodAt m (firstSlot 6 (index m .slots) (index m .head .count) 0) in
       either (eqb (index m .head .method) 0) (responseLines m (index m .slots) (index m .head)) (requestLines m (index m .slots) (index m .head))
       (either (within 100 699 (statusAt m)) (responseTo m (index m .slots) (index m .head) (statusAt m) method) _
       (response-counts method (responseColumn (within 200 299 (statusAt m)) method)) (λ y. never (cc)))

@@ -15,6 +15,7 @@ pub mod Kept
 pub mod Decisions
 pub mod Reasons
 pub mod Parts
+pub mod Slots
 pub mod Statuses
 pub mod Judging
 pub mod RequestJudging

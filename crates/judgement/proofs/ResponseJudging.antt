@@ -19,7 +19,7 @@ use Rattle.sip.proofs.Firsts.{method-kept, column-once}
 use Rattle.lines.specs.declared.Message.{Message}
 use Rattle.judgement.specs.declared.Tally.{Tally}
 use Rattle.judgement.specs.Sets.{has, keptSet}
-use Rattle.judgement.specs.Entries.{cseqSlot}
+use Rattle.judgement.specs.Entries.{firstSlot}
 use Rattle.judgement.specs.Tallies.{noTally, tallied}
 use Rattle.judgement.specs.Judged.{shared, refusedFor, statusAt, methodAt, responseBy, judgedBy, responseAs, responseTo, responseLines, judgedLines}
 use Rattle.judgement.specs.Judges.{Judges}
@@ -43,7 +43,7 @@ module _ {m slots : List ℕ} {x : Message} (l : StatusLine) (r : Reads m slots 
   unfolding firstCSeqMethod
   named-kept c = rw (method-kept (some c) (fs r))
 
-  named-is : methodAt m (cseqSlot slots (x .count) 0) ≡ named
+  named-is : methodAt m (firstSlot 6 slots (x .count) 0) ≡ named
   named-is =
       let c : Column = OtherResponse in
       let h : has (keptSet c) 6 ≡ true = kept-has c 6 ∙ rw (cseq-kept (some c)) in

@@ -3,23 +3,21 @@
 use mathlib.Core.Path.{_≡_, refl, sym, ap, _∙_}
 use mathlib.Core.Bool.{Bool, true, false, cond}
 use mathlib.Core.List.{List, [], _∷_}
-use Prim.Native.Nat.{ℕ, zero, suc, _+_, _-_, _≤_, _<_}
-use native.Mathlib.Numerals.{add-one}
+use Prim.Native.Nat.{ℕ, zero, suc, _-_, _≤_}
 use native.Mathlib.Omega.{arith}
 use lib.Dec.{eqb}
 use lib.ListN.{length, take}
 use lib.Seq.{take-length}
-use borrow.Author.Tests.{eqb-true, eq-eqb, ne-eqb, le-leb}
+use borrow.Author.Tests.{eqb-true, le-leb}
 use Rattle.octets.specs.Classes.{isDigit}
 use Rattle.octets.specs.Scans.{run, all, decimal, number}
 use Rattle.octets.proofs.Runs.{run-whole}
 use Rattle.sip.specs.Refusals.{valueOf, firstCSeqMethod}
 use Rattle.sip.specs.Values.{cseqMethod}
 use Rattle.sip.proofs.Tests.{never, range-high, all-first, all-others}
-use Rattle.lines.specs.declared.Slot.{Slot}
 use Rattle.lines.specs.Index.{noSlot, slotAt}
 use Rattle.judgement.specs.Sets.{has}
-use Rattle.judgement.specs.Entries.{Within, valueAt, entryAt, entriesFrom, cseqSlot}
+use Rattle.judgement.specs.Entries.{valueAt, entryAt, entriesFrom, firstSlot}
 use Rattle.judgement.specs.Judged.{methodAt}
 
 -- ---- the status
@@ -52,52 +50,16 @@ no-slot-named m = refl
 
 module _ (m ns : List ℕ) where
   -- the first CSeq of a set that keeps it is the first slot of a CSeq
-  pub method-is : (set : ℕ) → has set 6 ≡ true → (k i : ℕ) → firstCSeqMethod (entriesFrom set m ns k i) ≡ methodAt m (cseqSlot ns k i)
-  unfolding entriesFrom cseqSlot firstCSeqMethod valueOf methodAt
+  pub method-is : (set : ℕ) → has set 6 ≡ true → (k i : ℕ) → firstCSeqMethod (entriesFrom set m ns k i) ≡ methodAt m (firstSlot 6 ns k i)
+  unfolding entriesFrom firstSlot firstCSeqMethod valueOf methodAt
   method-is set h zero i = no-slot-named m
   method-is set h (suc k) i = go (eqb (slotAt ns i .number) 6) (has set (slotAt ns i .number)) refl refl (method-is set h k (suc i))
     where
       go : (a b : Bool) → eqb (slotAt ns i .number) 6 ≡ a → has set (slotAt ns i .number) ≡ b
-          → firstCSeqMethod (entriesFrom set m ns k (suc i)) ≡ methodAt m (cseqSlot ns k (suc i))
+          → firstCSeqMethod (entriesFrom set m ns k (suc i)) ≡ methodAt m (firstSlot 6 ns k (suc i))
           → firstCSeqMethod (cond b (entryAt m (slotAt ns i) ∷ entriesFrom set m ns k (suc i)) (entriesFrom set m ns k (suc i)))
-          ≡ methodAt m (cond a (slotAt ns i) (cseqSlot ns k (suc i)))
+          ≡ methodAt m (cond a (slotAt ns i) (firstSlot 6 ns k (suc i)))
       go true true p q f = rw p
       go true false p q f = let z : has set 6 ≡ false = rw (eqb-true (slotAt ns i .number) 6 p) at q in never (cc)
       go false true p q f = rw p f
       go false false p q f = f
-
-  -- ---- the loop over the slots
-
-  module _ (count i : ℕ) (h : cseqSlot ns count 0 ≡ cseqSlot ns (count - i) i) where
-    step : i < count → cseqSlot ns (count - i) i ≡ cond (eqb (slotAt ns i .number) 6) (slotAt ns i) (cseqSlot ns (count - suc i) (suc i))
-    unfolding cseqSlot
-    step l = let z : count - i ≡ suc (count - suc i) = omega arith in rw z
-
-    pub found-slot : i < count → {s : Slot} → s ≡ slotAt ns i → s .number ≡ 6 → s ≡ cseqSlot ns count 0
-    found-slot l {s} e q = e ∙ sym (h ∙ step l ∙ rw (eq-eqb (slotAt ns i .number) 6 (ap (λ (x : Slot). x .number) (sym e) ∙ q)))
-
-    pub other-slot : i < count → {s : Slot} → s ≡ slotAt ns i → (s .number ≡ 6 → ⊥) → {j : ℕ} → j ≡ i + 1 → cseqSlot ns count 0 ≡ cseqSlot ns (count - j) j
-    other-slot l {s} e q {j} f =
-        let y : j ≡ suc i = f ∙ add-one i in
-        h ∙ step l ∙ rw (ne-eqb (slotAt ns i .number) 6 (λ z. q (ap (λ (x : Slot). x .number) e ∙ z)), y)
-
-    pub no-slot : count ≤ i → noSlot ≡ cseqSlot ns count 0
-    unfolding cseqSlot
-    no-slot l = let z : count - i ≡ 0 = omega arith in sym (h ∙ rw z)
-
-  pub begun-slot : (count : ℕ) → cseqSlot ns count 0 ≡ cseqSlot ns (count - 0) 0
-  begun-slot count = let z : count - 0 ≡ count = omega arith in rw z
-
-  module _ (within : Within m ns) where
-    first-fits : (k i : ℕ) → cseqSlot ns k i .start + cseqSlot ns k i .len ≤ length m
-    unfolding cseqSlot
-    first-fits zero i = omega arith
-    first-fits (suc k) i = go (eqb (slotAt ns i .number) 6) (first-fits k (suc i))
-      where
-        go : (b : Bool) → cseqSlot ns k (suc i) .start + cseqSlot ns k (suc i) .len ≤ length m
-            → cond b (slotAt ns i) (cseqSlot ns k (suc i)) .start + cond b (slotAt ns i) (cseqSlot ns k (suc i)) .len ≤ length m
-        go true l = within i
-        go false l = l
-
-    pub slot-fits : (count : ℕ) {s : Slot} → s ≡ cseqSlot ns count 0 → s .start + s .len ≤ length m
-    slot-fits count e = rw e (first-fits count 0)

@@ -33,7 +33,7 @@ entriesFrom set m ns (suc k) i =
     let others = entriesFrom set m ns k (suc i) in
     cond (has set (slotAt ns i .number)) (entryAt m (slotAt ns i) ∷ others) others
 
--- the first CSeq among k slots from the i-th on; no slot where there is none
-unfoldable pub cseqSlot : List ℕ → ℕ → ℕ → Slot
-cseqSlot ns zero i = noSlot
-cseqSlot ns (suc k) i = let later = cseqSlot ns k (suc i) in cond (eqb (slotAt ns i .number) 6) (slotAt ns i) later
+-- the first slot of number n among k slots from the i-th on; no slot where there is none
+unfoldable pub firstSlot : ℕ → List ℕ → ℕ → ℕ → Slot
+firstSlot n ns zero i = noSlot
+firstSlot n ns (suc k) i = let later = firstSlot n ns k (suc i) in cond (eqb (slotAt ns i .number) n) (slotAt ns i) later

@@ -24,7 +24,7 @@ use Rattle.judgement.specs.declared.Judged.{Judged}
 use Rattle.judgement.specs.declared.ColumnOf.{ColumnOf}
 use Rattle.judgement.specs.declared.ColumnOf.the-variants.{Is, Unknown}
 use Rattle.judgement.specs.Sets.{has, keptSet, columnAt, lackAt}
-use Rattle.judgement.specs.Entries.{valueAt, cseqSlot, entriesFrom}
+use Rattle.judgement.specs.Entries.{valueAt, firstSlot, entriesFrom}
 use Rattle.judgement.specs.Tallies.{finding, noted, noTally, tallied}
 
 -- the tally with the field of a slot, where it is kept
@@ -174,7 +174,7 @@ responseTo m ns h status method = responseAs m ns h method (responseColumn (with
 
 unfoldable pub responseLines : List ℕ → List ℕ → Message → Judged
 responseLines m ns h =
-    let known = responseTo m ns h (statusAt m) (methodAt m (cseqSlot ns (h .count) 0)) in
+    let known = responseTo m ns h (statusAt m) (methodAt m (firstSlot 6 ns (h .count) 0)) in
     cond (within 100 699 (statusAt m)) known (refusedFor (record { reason = 17; reply = 0; detail = 0; missing = 0 }))
 
 -- ---- a message by its lines and slots

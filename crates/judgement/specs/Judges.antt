@@ -27,7 +27,7 @@ pub data Told (hops : ℕ) (tag : Span) : List Entry → Type 0 where
   nothing : Told hops tag []
   also : {e : Entry} {es : List Entry} → Tells hops tag e → Told hops tag es → Told hops tag (e ∷ es)
 
--- no reason but 1 and 16 refuses it: the judgement of the pages accepts this message, and this is what the answer and the slots say of it
+-- no reason but 1, 16 and 18 refuses it: the judgement of the pages accepts this message, and this is what the answer and the slots say of it
 pub record Passes (m slots : List ℕ) (r : Judged) : Type 0 where
   pub message : Passed
   pub header : Header

@@ -8,7 +8,7 @@ ghost use Rattle.sip.specs.Lines.{folded};
 ghost use Rattle.sip.specs.Values.{isTagged};
 ghost use Rattle.lines.specs.Index.{index};
 ghost use Rattle.judgement.specs.Sets.{has};
-ghost use Rattle.judgement.specs.Entries.{Within};
+ghost use Rattle.judgement.specs.Entries.{Within, firstSlot};
 ghost use Rattle.judgement.specs.Judged.{judgedLines, judgedMessage};
 ghost use Rattle.judgement.specs.Judges.{Judges};
 
@@ -71,7 +71,7 @@ pub(crate) struct Tally {
     pub caller: sip::CallerAt,
 }
 
-// A message that no reason but 1 and 16 refuses (reason 0), or the refusal. Of such a message: whether nothing is ever replied to it, how
+// A message that no reason but 1, 16 and 18 refuses (reason 0), or the refusal. Of such a message: whether nothing is ever replied to it, how
 // many bytes of its start line stand before the version, the length of its start line, where the bytes after the empty line start, how
 // many slots there are; the set of fields that it keeps, what its Max-Forwards says, the length of its body, whether its caller is
 // withheld, where the tag stands in its From (no part where it has none), and where the caller's number stands in its P-Asserted-Identity
@@ -109,6 +109,26 @@ pub fn is_tagged(v: &[u8]) -> bool
     to.len != 0
 }
 
+// The first slot of a number; no slot, whose value is empty, where there is none.
+pub fn first_slot(slots: &[u16; 384], count: usize, n: usize) -> lines::Slot
+    ensures { λ r. ⌜ r ≡ firstSlot n (now (slots .entry)) count 0 ⌝ }
+{
+    let mut i = 0;
+    while i < count {
+        let s = lines::slot_at(slots, i);
+        if s.number == n {
+            return s;
+        }
+        i += 1;
+    }
+    lines::Slot {
+        number: 0,
+        start: 0,
+        len: 0,
+        folded: false,
+    }
+}
+
 // A message that was read. A response has no method in its start line, so that its length tells the kind.
 fn judge_read(message: &[u8], m: lines::Message, slots: &[u16; 384]) -> Judged
     requires { ⌜ (length (now message) ≤ 8192) × (m .count ≤ 96) × (m .method + m .uri ≤ 8192) × (m .rest ≤ length (now message)) × Within (now message) (now slots) ⌝ }
@@ -121,7 +141,7 @@ fn judge_read(message: &[u8], m: lines::Message, slots: &[u16; 384]) -> Judged
 }
 
 // Reads and judges a message; the slots are what `lines::read` leaves. The answer is `judgedMessage`: what the pass over the slots comes to,
-// by masks and tallies. And it `Judges` the message in the pages' words: it refuses with just their numbers, or no reason but 1 and 16
+// by masks and tallies. And it `Judges` the message in the pages' words: it refuses with just their numbers, or no reason but 1, 16 and 18
 // applies, and then it and the slots say what the accepted message is.
 pub fn judge(message: &[u8], slots: &mut [u16; 384]) -> Judged
     ensures { λ r. ⌜

@@ -6,7 +6,6 @@ use crate::refusals;
 use crate::sets;
 use crate::tallies;
 use lines::Message;
-use lines::Slot;
 use sip::Column;
 ghost use mathlib.Core.Path.{_≡_};
 ghost use mathlib.Core.Bool.{cond};
@@ -15,7 +14,7 @@ ghost use lib.ListN.{length};
 ghost use Rattle.octets.specs.Classes.{within};
 ghost use Rattle.sip.specs.declared.Column.the-variants.{InviteSuccess, OtherResponse};
 ghost use Rattle.sip.specs.Values.{cseqMethod};
-ghost use Rattle.judgement.specs.Entries.{Within, unfoldedBy, cseqSlot};
+ghost use Rattle.judgement.specs.Entries.{Within, unfoldedBy};
 ghost use Rattle.judgement.specs.Judged.{responseBy, statusAt, responseTo, responseLines};
 
 // The three digits after the version.
@@ -24,26 +23,6 @@ fn status_of(message: &[u8]) -> u64
 {
     let digits = octets::number(octets::part(message, 8, 3), 3, 999);
     digits.value
-}
-
-// The first CSeq; no slot, whose value is empty, where there is none.
-fn cseq_slot(slots: &[u16; 384], count: usize) -> Slot
-    ensures { λ r. ⌜ r ≡ cseqSlot (now (slots .entry)) count 0 ⌝ }
-{
-    let mut i = 0;
-    while i < count {
-        let s = lines::slot_at(slots, i);
-        if s.number == 6 {
-            return s;
-        }
-        i += 1;
-    }
-    Slot {
-        number: 0,
-        start: 0,
-        len: 0,
-        folded: false,
-    }
 }
 
 // The column of a response to an INVITE.
@@ -106,7 +85,7 @@ pub(crate) fn judge_response(message: &[u8], m: Message, slots: &[u16; 384]) -> 
     if 699 < status {
         return refusals::refused(refusals::refusal(17, 0, 0, 0));
     }
-    let s = cseq_slot(slots, m.count);
+    let s = crate::first_slot(slots, m.count, 6);
     let v = tallies::value_of(message, s);
     judge_status(message, m, status, v, s.folded, slots)
 }

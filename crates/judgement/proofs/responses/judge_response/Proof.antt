@@ -12,9 +12,9 @@ use Rattle.lines.specs.declared.Message.{Message}
 use Rattle.lines.specs.declared.Slot.{Slot}
 use Rattle.judgement.specs.declared.Refusal.{Refusal}
 use Rattle.judgement.specs.declared.Judged.{Judged}
-use Rattle.judgement.specs.Entries.{unfoldedBy, valueAt, cseqSlot}
+use Rattle.judgement.specs.Entries.{unfoldedBy, valueAt, firstSlot}
 use Rattle.judgement.specs.Judged.{refusedFor, statusAt, methodAt, responseTo, responseLines}
-use Rattle.judgement.proofs.Statuses.{slot-fits}
+use Rattle.judgement.proofs.Slots.{slot-fits}
 use Rattle.judgement.proofs.responses.judge_response.Statement.{statement}
 use Rattle.judgement.proofs.responses.judge_response.Tie as tie
 
@@ -28,7 +28,7 @@ module _ (m slots : List ℕ) (h : Message) {n : ℕ} (e : n ≡ statusAt m) whe
     unfolding responseLines
     above l = rw (ha, hx, ← e, lt-leb n 699 l, and-false (leb 100 n))
 
-  between : 100 ≤ n → n ≤ 699 → {s : Slot} → s ≡ cseqSlot slots (h .count) 0 → {v : List ℕ} → v ≡ take (s .len) (drop (s .start) m)
+  between : 100 ≤ n → n ≤ 699 → {s : Slot} → s ≡ firstSlot 6 slots (h .count) 0 → {v : List ℕ} → v ≡ take (s .len) (drop (s .start) m)
       → {a : Judged} → a ≡ responseTo m slots h n (cseqMethod (unfoldedBy (s .folded) v)) → a ≡ responseLines m slots h
   unfolding responseLines methodAt valueAt
   between l k hs hv ha = rw (← hs, ← hv, ha, ← e, le-leb 100 n l, le-leb n 699 k)
@@ -54,8 +54,8 @@ refused-requires-2 c κs = search needs
 returns-2 : tie.Need-returns-2
 returns-2 c = search above
 
-cseq-slot-requires : tie.Need-cseq-slot-requires
-cseq-slot-requires c κs = search needs
+first-slot-requires : tie.Need-first-slot-requires
+first-slot-requires c κs = search needs
 
 value-of-requires : tie.Need-value-of-requires
 value-of-requires c κs = search (slot-fits, needs)
@@ -77,7 +77,7 @@ judge-response-spec =
     refusal-requires-2
     refused-requires-2
     returns-2
-    cseq-slot-requires
+    first-slot-requires
     value-of-requires
     judge-status-requires
     returns-3)

@@ -1,17 +1,17 @@
--- The slots before the i-th have no CSeq: the first is among those that are left.
+-- The slots before the i-th are of other numbers: the first is among those that are left.
 use borrow.Author.Needs.{needs}
 use mathlib.Core.Path.{_≡_}
 use Prim.Native.Nat.{_-_, _≤_}
-use Rattle.judgement.specs.Entries.{cseqSlot}
-use Rattle.judgement.proofs.Statuses.{begun-slot, found-slot, other-slot, no-slot}
-use Rattle.judgement.proofs.responses.cseq_slot.Statement.{statement}
-use Rattle.judgement.proofs.responses.cseq_slot.Tie as tie
+use Rattle.judgement.specs.Entries.{firstSlot}
+use Rattle.judgement.proofs.Slots.{begun-slot, found-slot, other-slot, no-slot}
+use Rattle.judgement.proofs.first_slot.Statement.{statement}
+use Rattle.judgement.proofs.first_slot.Tie as tie
 
 abbrev Inv-loop : tie.InvT-loop
-Inv-loop slots count i₀ i = (i ≤ count) × (cseqSlot slots count 0 ≡ cseqSlot slots (count - i) i)
+Inv-loop slots count n i₀ i = (i ≤ count) × (firstSlot n slots count 0 ≡ firstSlot n slots (count - i) i)
 
 abbrev μ-loop : tie.MeasureT-loop
-μ-loop slots count i₀ i = count - i
+μ-loop slots count n i₀ i = count - i
 
 loop-holds : tie.Need-loop-holds Inv-loop μ-loop
 loop-holds c = search (begun-slot, needs)
@@ -34,8 +34,8 @@ loop-again c = search (other-slot, needs)
 returns-2 : tie.Need-returns-2 Inv-loop μ-loop
 returns-2 c = search no-slot
 
-pub cseq-slot-spec : {M : Type 1} → statement M
-cseq-slot-spec =
+pub first-slot-spec : {M : Type 1} → statement M
+first-slot-spec =
     tie.close
     (tie.spec
     Inv-loop
