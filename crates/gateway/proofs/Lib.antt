@@ -2,6 +2,6 @@ pub mod Copies
 pub mod LongNames
 pub mod Lines
 pub mod Starts
-pub mod Answers
+pub mod CallStates
 pub mod Top
 pub mod Callers

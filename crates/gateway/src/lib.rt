@@ -5,13 +5,13 @@ ghost use mathlib.Core.Path.{_≡_};
 ghost use mathlib.Core.Bool.{true, false, cond, _&&_};
 ghost use mathlib.Core.List.{_++_};
 ghost use Prim.Native.Nat.{_+_, _≤_, _<_};
-ghost use lib.Dec.{eqb, leb};
+ghost use lib.Dec.{leb};
 ghost use lib.ListN.{length, take, drop};
 ghost use Rattle.sip.specs.Lines.{crlf};
 ghost use Rattle.sip.specs.Output.{fieldLines};
 ghost use Rattle.sip.specs.Refusals.{refusal};
 ghost use Rattle.sip.specs.Readings.{noCalling, callingPart, callingNumber};
-ghost use Rattle.sip.specs.Screen.{screened};
+ghost use Rattle.sip.specs.Screen.{answerOf, callsOf, verdict, screened};
 ghost use Rattle.sip.specs.Values.{isGlobal};
 ghost use Rattle.emit.specs.Put.{Wrote};
 ghost use Rattle.lines.specs.Index.{index};
@@ -19,6 +19,7 @@ ghost use Rattle.judgement.specs.Entries.{Within, entriesFrom};
 ghost use Rattle.judgement.specs.Judges.{Told, Passes};
 ghost use Rattle.judgement.specs.Sets.{has};
 ghost use Rattle.gateway.specs.Callers.{Calling};
+ghost use Rattle.gateway.specs.CallStates.{pairIn, maskedBy, tableBy, delivered};
 ghost use Rattle.gateway.specs.Sending.{sendingOf};
 ghost use Rattle.gateway.specs.Sent.{sentStart, sentMessage};
 ghost use Rattle.gateway.specs.Verdicts.{numbersOf};
@@ -26,11 +27,22 @@ ghost use Rattle.gateway.specs.Verdicts.{numbersOf};
 mod copy;
 mod names;
 mod output;
+mod remembered;
 
 // The verdict is a choice: accepted with its length, or refused with those numbers.
 pub enum Verdict {
     Accepted(usize),
     Refused(Refusal),
+}
+
+// What the table of calls says of an accepted message. Shown: nothing, and it goes out as it is. Hidden: its pair is held. Ending: its pair is
+// held, and it is a BYE. New: its caller is withheld and its pair is not held; it is entered at this place. TooMany: there is none (reason 18).
+pub(crate) enum CallState {
+    Shown,
+    Hidden,
+    Ending,
+    New(usize),
+    TooMany,
 }
 
 // What of the outgoing message the kept values do not say by themselves: whether the caller is masked, what Max-Forwards says, the length
@@ -151,16 +163,6 @@ fn needed(message: &[u8], slots: &[u16; 384], j: Judged, masked: bool, room: usi
     len
 }
 
-// The caller is masked on side 1 where it is withheld.
-fn is_masked(side: u64, withheld: bool) -> bool
-    ensures { λ r. ⌜ r ≡ (eqb side 1 && withheld) ⌝ }
-{
-    if side != 1 {
-        return false;
-    }
-    withheld
-}
-
 // Reason 16. To an ACK and to a response nothing is replied.
 fn too_long(silent: bool, needed: usize) -> Refusal
     ensures { λ r. ⌜ (r .reason ≡ 16) × (r .reply ≡ cond silent 0 500) × (r .detail ≡ needed) × (r .missing ≡ 0) ⌝ }
@@ -182,44 +184,62 @@ fn too_long(silent: bool, needed: usize) -> Refusal
     }
 }
 
-// Reason 16, or the outgoing message where no other reason refuses.
-fn deliver(message: &[u8], side: u64, out: &mut [u8], slots: &[u16; 384], j: Judged) -> Verdict
-    requires { ⌜ Passes (now message) (now slots) j × (side ≤ 1) ⌝ }
+// Reason 16, or the outgoing message, where no other reason refuses, and the table after it.
+fn deliver(
+    message: &[u8],
+    table: &mut [u8; 6208],
+    out: &mut [u8],
+    slots: &[u16; 384],
+    j: Judged,
+    state: CallState,
+) -> Verdict
+    requires { ⌜ Passes (now message) (now slots) j ⌝ }
     ensures { λ r. ⌜
-        (numbersOf r ≡ screened (now (message .entry)) side (now (out .entry)) .answer)
-        × (now (out .exit) ≡ screened (now (message .entry)) side (now (out .entry)) .buffer)
+        (numbersOf r
+        ≡ delivered (j .silent) (sentMessage (now (message .entry)) (now (slots .entry)) j (maskedBy state))
+        (tableBy state (pairIn (now (message .entry)) (now (slots .entry)) (j .count) (j .tag)) (now (table .entry))) (now (out .entry)) (now (table .entry)) .answer)
+        × (now (out .exit)
+        ≡ delivered (j .silent) (sentMessage (now (message .entry)) (now (slots .entry)) j (maskedBy state))
+        (tableBy state (pairIn (now (message .entry)) (now (slots .entry)) (j .count) (j .tag)) (now (table .entry))) (now (out .entry)) (now (table .entry)) .buffer)
+        × (now (table .exit)
+        ≡ delivered (j .silent) (sentMessage (now (message .entry)) (now (slots .entry)) j (maskedBy state))
+        (tableBy state (pairIn (now (message .entry)) (now (slots .entry)) (j .count) (j .tag)) (now (table .entry))) (now (out .entry)) (now (table .entry)) .table)
         ⌝ }
 {
-    let masked = is_masked(side, j.withheld);
+    let masked = remembered::is_masked(state);
     let lack = needed(message, slots, j, masked, out.len());
     if lack != 0 {
         return Verdict::Refused(too_long(j.silent, lack));
     }
+    // There is room, so that nothing refuses any more. The table comes first: its pair need not be kept while the message is written.
+    let tag = j.tag;
+    remembered::remember(message, table, slots, j.count, tag, state);
     Verdict::Accepted(write(out, message, slots, j, masked))
 }
 
-// A refusal that says no more than its reason, and to which nothing is replied.
-fn refused(reason: u64) -> Verdict
-    ensures { λ r. ⌜ numbersOf r ≡ refusal reason 0 0 0 ⌝ }
+// A refusal that says no more than its reason and its reply.
+fn refused(reason: u64, reply: u64) -> Verdict
+    ensures { λ r. ⌜ numbersOf r ≡ refusal reason reply 0 0 ⌝ }
 {
     Verdict::Refused(Refusal {
         reason,
-        reply: 0,
+        reply,
         detail: 0,
         missing: 0,
     })
 }
 
-// Screens a request or a response that goes to a peer on a side: accepts it and writes the outgoing message, or refuses it and leaves the
-// buffer as it was.
-pub fn screen(message: &[u8], side: u64, out: &mut [u8]) -> Verdict
+// Screens a request or a response that goes to a peer on a side, with the table of the calls that are remembered: accepts it, writes the
+// outgoing message and leaves the table as it is after it; or refuses it and leaves buffer and table as they were.
+pub fn screen(message: &[u8], side: u64, table: &mut [u8; 6208], out: &mut [u8]) -> Verdict
     ensures { λ r. ⌜
-        (numbersOf r ≡ screened (now (message .entry)) side (now (out .entry)) .answer)
-        × (now (out .exit) ≡ screened (now (message .entry)) side (now (out .entry)) .buffer)
+        (numbersOf r ≡ screened (now (message .entry)) side (now (table .entry)) (now (out .entry)) .answer)
+        × (now (out .exit) ≡ screened (now (message .entry)) side (now (table .entry)) (now (out .entry)) .buffer)
+        × (now (table .exit) ≡ screened (now (message .entry)) side (now (table .entry)) (now (out .entry)) .table)
         ⌝ }
 {
     if 1 < side {
-        return refused(1);
+        return refused(1, 0);
     }
     let mut slots = [0u16; 384];
     let j = judgement::judge(message, &mut slots);
@@ -227,7 +247,39 @@ pub fn screen(message: &[u8], side: u64, out: &mut [u8]) -> Verdict
     if r.reason != 0 {
         return Verdict::Refused(r);
     }
-    deliver(message, side, out, &slots, j)
+    let state = remembered::state_for(message, side, table, &slots, j);
+    if remembered::is_overfull(state) {
+        return refused(18, 503);
+    }
+    deliver(message, table, out, &slots, j, state)
+}
+
+// The reason of a screening with room enough, 0 where it accepts, and the table after it. No outgoing message is written.
+pub fn reason_with_room(message: &[u8], side: u64, table: &mut [u8; 6208]) -> u64
+    ensures { λ r. ⌜
+        (r ≡ answerOf (verdict (now (message .entry)) side (now (table .entry))) .reason) × (r ≤ 18)
+        × (now (table .exit) ≡ callsOf (now (table .entry)) (verdict (now (message .entry)) side (now (table .entry))))
+        ⌝ }
+{
+    if 1 < side {
+        return 1;
+    }
+    let mut slots = [0u16; 384];
+    let j = judgement::judge(message, &mut slots);
+    let r = j.refusal;
+    if r.reason != 0 {
+        return r.reason;
+    }
+    if !remembered::is_asked(side, j.before) {
+        return 0;
+    }
+    let tag = j.tag;
+    let state = remembered::state_of(message, table, &slots, j.count, tag, j.withheld);
+    if remembered::is_overfull(state) {
+        return 18;
+    }
+    remembered::change(message, table, &slots, j.count, tag, state);
+    0
 }
 
 fn no_calling() -> sip::CallingAt

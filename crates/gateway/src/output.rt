@@ -130,7 +130,7 @@ pub(crate) fn lines_len(
 }
 
 // Where the tag stands in a From as it came. Nothing in a tag is folded, so it stands there as it is.
-fn tag_place(v: &[u8], broken: bool, start: usize) -> usize
+pub(crate) fn tag_place(v: &[u8], broken: bool, start: usize) -> usize
     ensures { λ r. ⌜ r ≡ cond broken (unfoldedAt start 0 (now (v .entry))) start ⌝ }
 {
     if broken {

@@ -4,7 +4,7 @@ use mathlib.Core.Bool.{Bool, true, false, cond}
 use mathlib.Core.List.{List, [], _∷_}
 use Prim.Native.Nat.{ℕ, _-_, _≤_}
 use native.Mathlib.Omega.{arith}
-use lib.Dec.{leb, eqb}
+use lib.Dec.{eqb}
 use lib.ListN.{length, take, drop, replicate, length-drop, length-append, length-replicate}
 use lib.Seq.{take-at}
 use borrow.Author.Tests.{eqb-true, eqb-false}
@@ -12,10 +12,12 @@ use Rattle.octets.specs.Classes.{among}
 use Rattle.octets.specs.Scans.{all}
 use Rattle.sip.specs.Lines.{Start, Header}
 use Rattle.sip.specs.Values.{isGlobal}
-use Rattle.sip.specs.Refusals.{Answer, refusal, silent, replied, Lines, unread, read, lines, withheld, Passed, Judgement, refused, accepted, judgement}
+use Rattle.sip.specs.Refusals.{Answer, refusal, Lines, unread, read, lines, withheld, Passed, Judgement, refused, accepted, judgement}
 use Rattle.sip.specs.Output.{output}
-use Rattle.sip.specs.Screen.{masks, delivered, screened}
+use Rattle.sip.specs.Screen.{verdict, Screened, screened}
 use Rattle.sip.proofs.Accepted.{not-both}
+use Rattle.sip.proofs.Cases.{replied-reason, written-cases}
+use Rattle.sip.proofs.Screening.{side-0}
 use Rattle.sip.proofs.Change.{alike}
 use Rattle.isup.specs.declared.Caller.{Caller}
 use Rattle.isup.specs.Fields.{Fields, octets, fieldsOf, fillerIsZero}
@@ -37,22 +39,14 @@ use Rattle.isup.proofs.Initial.{calling-is, calling-any}
 -- ---- forward
 
 pub screens-own : ScreensOwn
-unfolding screened produced delivered replied
-screens-own m code home buffer = record { of-the-screen = λ a e. (rw e, rw e); of-the-box = λ r e. (by-screen r e, by-box r e) }
+unfolding screened verdict produced
+screens-own m code home table buffer = record { of-the-screen = λ a e. (rw e, rw e); of-the-box = λ r e. (by-screen r e, by-box r e) }
   where
-    by-screen : (r : Passed) → judgement m ≡ accepted r → among (0 ∷ 16 ∷ []) (screened m 0 buffer .answer .reason) ≡ true
-    by-screen r e = rw e (go (leb (length (output (masks 0 r) r)) (length buffer)) refl)
-      where
-        out : List ℕ
-        out = output (masks 0 r) r
-
-        quiet : (t : Bool) → among (0 ∷ 16 ∷ []) (cond t (refusal 16 0 (length out) 0) (refusal 16 500 (length out) 0) .reason) ≡ true
-        quiet true = refl
-        quiet false = refl
-
-        go : (t : Bool) → leb (length out) (length buffer) ≡ t → among (0 ∷ 16 ∷ []) (delivered r out buffer .answer .reason) ≡ true
-        go true p = rw p
-        go false p = rw p (quiet (silent (r .line)))
+    by-screen : (r : Passed) → judgement m ≡ accepted r → among (0 ∷ 16 ∷ []) (screened m 0 table buffer .answer .reason) ≡ true
+    by-screen r e =
+        rw (e, side-0 table r)
+        (written-cases (λ (s : Screened). among (0 ∷ 16 ∷ []) (s .answer .reason) ≡ true) buffer table (r .line) (output false r) table
+        (rw (replied-reason (r .line) (refusal 16 500 (length (output false r)) 0)) refl) refl)
 
     by-box : (r : Passed) → judgement m ≡ accepted r → among (0 ∷ 41 ∷ 42 ∷ []) (produced m code home .refusal .reason) ≡ true
     by-box r e = go (isInitialInvite r) (isCode code) refl refl

@@ -84,19 +84,19 @@ International =
 
 -- ---- "Refusals: the screen's own first, then no initial INVITE 42, bad country code 41"
 
--- what the judgement refuses, the screen refuses on side 0 whatever the room, and the box with the same numbers; where it accepts, the screen
--- lacks at most room, and the box has a refusal of its own or none
-pub record OwnFirst (m code : List ℕ) (home : Bool) (buffer : List ℕ) : Type 0 where
+-- what the judgement refuses, the screen refuses on side 0 whatever the room and the calls remembered, and the box with the same numbers; where
+-- it accepts, the screen lacks at most room, and the box has a refusal of its own or none
+pub record OwnFirst (m code : List ℕ) (home : Bool) (table buffer : List ℕ) : Type 0 where
   pub of-the-screen :
       (a : Answer) → judgement m ≡ refused a
-      → (screened m 0 buffer ≡ refusing a buffer) × (produced m code home ≡ noParameter (a .reason) (a .reply) (a .detail) (a .missing))
+      → (screened m 0 table buffer ≡ refusing a buffer table) × (produced m code home ≡ noParameter (a .reason) (a .reply) (a .detail) (a .missing))
   pub of-the-box :
       (r : Passed) → judgement m ≡ accepted r
-      → (among (0 ∷ 16 ∷ []) (screened m 0 buffer .answer .reason) ≡ true)
+      → (among (0 ∷ 16 ∷ []) (screened m 0 table buffer .answer .reason) ≡ true)
       × (among (0 ∷ 41 ∷ 42 ∷ []) (produced m code home .refusal .reason) ≡ true)
 
 abbrev pub ScreensOwn : Type 0
-ScreensOwn = (m code : List ℕ) (home : Bool) (buffer : List ℕ) → OwnFirst m code home buffer
+ScreensOwn = (m code : List ℕ) (home : Bool) (table buffer : List ℕ) → OwnFirst m code home table buffer
 
 -- of a message that the screen accepts
 pub record OfAccepted (m code : List ℕ) (home : Bool) (r : Passed) : Type 0 where

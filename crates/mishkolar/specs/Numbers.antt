@@ -7,15 +7,16 @@ use lib.ListN.{length}
 use Rattle.octets.specs.Classes.{bit}
 use Rattle.sip.specs.Readings.{callingAt}
 use Rattle.sip.specs.Screen.{Screened}
-use Rattle.records.specs.declared.Replay.{Replay}
+use Rattle.records.specs.Running.{State}
 
-pub record Screens (s : Screened) (reason reply detail missing len : ℕ) (buffer : List ℕ) : Type 0 where
+pub record Screens (s : Screened) (reason reply detail missing len : ℕ) (buffer calls : List ℕ) : Type 0 where
   pub same-reason : reason ≡ s .answer .reason
   pub same-reply : reply ≡ s .answer .reply
   pub same-detail : detail ≡ s .answer .detail
   pub same-missing : missing ≡ s .answer .missing
   pub same-length : len ≡ s .answer .length
   pub same-buffer : buffer ≡ s .buffer
+  pub same-calls : calls ≡ s .table
 
 -- the part lies within the trunk number or the message, as the flag says
 pub record Calls (m trunk : List ℕ) (len start flag : ℕ) : Type 0 where
@@ -24,6 +25,12 @@ pub record Calls (m trunk : List ℕ) (len start flag : ℕ) : Type 0 where
   pub same-flag : flag ≡ bit (callingAt m trunk .«from_trunk»)
   pub within : start + len ≤ length (cond (callingAt m trunk .«from_trunk») trunk m)
 
--- what is carried from record to record, in the three places that the caller keeps
-abbrev pub replayOf : List ℕ → ℕ → ℕ → Replay
-replayOf counts read end = record { counts = counts; read = read; end = end }
+-- what is carried from record to record, in the four places that the caller keeps
+abbrev pub replayOf : List ℕ → ℕ → ℕ → List ℕ → State
+replayOf counts read end calls = record { counts = counts; read = read; end = end; calls = calls }
+
+-- the numbers of it
+pub record Counted (counts : List ℕ) (read end : ℕ) (st : State) : Type 0 where
+  pub same-counts : counts ≡ st .counts
+  pub same-read : read ≡ st .read
+  pub same-end : end ≡ st .end

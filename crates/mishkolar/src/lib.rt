@@ -7,26 +7,29 @@ ghost use lib.ListN.{length};
 ghost use Rattle.causes.specs.Causes.{status, cause};
 ghost use Rattle.sip.specs.Readings.{count, readingAt};
 ghost use Rattle.octets.specs.Classes.{bit};
+ghost use Rattle.sip.specs.Calls.{removed, ending};
 ghost use Rattle.sip.specs.Screen.{screened};
+ghost use Rattle.calls.specs.Places.{pair};
 ghost use Rattle.emit.specs.Put.{Wrote};
 ghost use Rattle.records.specs.Records.{recording};
 ghost use Rattle.records.specs.Report.{printed};
-ghost use Rattle.records.specs.Running.{finished, taken, reportOf};
-ghost use Rattle.mishkolar.specs.Numbers.{Screens, Calls, replayOf};
+ghost use Rattle.records.specs.Running.{finished, taken, countsReport};
+ghost use Rattle.mishkolar.specs.Numbers.{Screens, Calls, replayOf, Counted};
 
 #[no_mangle]
 pub extern "C" fn mishkolar_screen(
     message: &[u8],
     side: u64,
+    calls: &mut [u8; 6208],
     out: &mut [u8],
     reason: &mut u64,
     reply: &mut u64,
     detail: &mut u64,
     missing: &mut u64,
 ) -> usize
-    ensures { λ r. ⌜ Screens (screened (now (message .entry)) side (now (out .entry))) (now (reason .exit)) (now (reply .exit)) (now (detail .exit)) (now (missing .exit)) r (now (out .exit)) ⌝ }
+    ensures { λ r. ⌜ Screens (screened (now (message .entry)) side (now (calls .entry)) (now (out .entry))) (now (reason .exit)) (now (reply .exit)) (now (detail .exit)) (now (missing .exit)) r (now (out .exit)) (now (calls .exit)) ⌝ }
 {
-    match gateway::screen(message, side, out) {
+    match gateway::screen(message, side, calls, out) {
         Verdict::Accepted(len) => {
             *reason = 0;
             *reply = 0;
@@ -42,6 +45,13 @@ pub extern "C" fn mishkolar_screen(
             0
         }
     }
+}
+
+#[no_mangle]
+pub extern "C" fn mishkolar_end_call(calls: &mut [u8; 6208], call_id: &[u8], tag: &[u8]) -> u64
+    ensures { λ r. ⌜ (r ≡ ending (pair (now («call_id» .entry)) (now (tag .entry))) (now (calls .entry))) × (now (calls .exit) ≡ removed (pair (now («call_id» .entry)) (now (tag .entry))) (now (calls .entry))) ⌝ }
+{
+    calls::end(calls, call_id, tag)
 }
 
 #[no_mangle]
@@ -110,17 +120,18 @@ pub extern "C" fn mishkolar_take_record(
     counts: &mut [u32; 60],
     read: &mut u64,
     end: &mut u64,
+    calls: &mut [u8; 6208],
     side: u64,
     message: &[u8],
 )
-    ensures { λ r. ⌜ replayOf (now (counts .exit)) (now (read .exit)) (now (end .exit)) ≡ taken (replayOf (now (counts .entry)) (now (read .entry)) (now (end .entry))) side (now (message .entry)) ⌝ }
+    ensures { λ r. ⌜ replayOf (now (counts .exit)) (now (read .exit)) (now (end .exit)) (now (calls .exit)) ≡ taken (replayOf (now (counts .entry)) (now (read .entry)) (now (end .entry)) (now (calls .entry))) side (now (message .entry)) ⌝ }
 {
     let before = Replay {
         counts: *counts,
         read: *read,
         end: *end,
     };
-    let after = records::take_record(before, side, message);
+    let after = records::take_record(before, calls, side, message);
     let counted = after.counts;
     *counts = counted;
     *read = after.read;
@@ -134,7 +145,7 @@ pub extern "C" fn mishkolar_replay(
     read: &mut u64,
     end: &mut u64,
 )
-    ensures { λ r. ⌜ replayOf (now (counts .exit)) (now (read .exit)) (now (end .exit)) ≡ finished (recording (now (text .entry))) ⌝ }
+    ensures { λ r. ⌜ Counted (now (counts .exit)) (now (read .exit)) (now (end .exit)) (finished (recording (now (text .entry)))) ⌝ }
 {
     let whole = records::replay_text(text);
     let counted = whole.counts;
@@ -145,7 +156,7 @@ pub extern "C" fn mishkolar_replay(
 
 #[no_mangle]
 pub extern "C" fn mishkolar_report(counts: &[u32; 60], read: u64, end: u64, out: &mut [u8]) -> usize
-    ensures { λ r. ⌜ Wrote (now (out .entry)) 0 (printed (reportOf (replayOf (now (counts .entry)) read end))) r (now (out .exit)) ⌝ }
+    ensures { λ r. ⌜ Wrote (now (out .entry)) 0 (printed (countsReport (now (counts .entry)) read end)) r (now (out .exit)) ⌝ }
 {
     let st = Replay {
         counts: *counts,

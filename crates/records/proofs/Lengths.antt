@@ -10,11 +10,11 @@ use Rattle.octets.specs.Classes.{text}
 use Rattle.sip.specs.Output.{wholeNumeral, spaced}
 use Rattle.emit.specs.Put.{Wrote}
 use Rattle.emit.proofs.Numerals.{digits-le}
-use Rattle.records.specs.Report.{pair, pairs, table, rate, Line, lineText, endText, printed}
-use Rattle.records.specs.Running.{countIn, rowOf, rowLine, countsReport, reportOf}
+use Rattle.records.specs.Report.{pair, pairs, table, Line, lineText, endText, printed}
+use Rattle.records.specs.declared.Replay.{Replay}
+use Rattle.records.specs.Running.{stateOf, countIn, rowOf, rowLine, countsReport}
 use Rattle.records.specs.Pieces.{Replayed, Prints}
 use Rattle.records.specs.Promises.{ReportRoom}
-use Rattle.records.specs.declared.Replay.{Replay}
 use Rattle.records.proofs.Reports.{prints-replayed}
 use Rattle.emit.proofs.Placing.{placed, stands}
 
@@ -84,5 +84,6 @@ report-room st =
     )
 
 -- the report of the replay of some text, at the front of a buffer that has room for every report
-pub prints : {st : Replay} {d : List ℕ} {n : ℕ} {d′ : List ℕ} → Replayed st → 4096 ≤ length d → Wrote d 0 (printed (reportOf st)) n d′ → Prints n d′
-prints {st} r l w = record { some-text = r .whole-text; prints = stands (placed w (omega (arith, report-room st))) ∙ prints-replayed r }
+pub prints : {st : Replay} {d : List ℕ} {n : ℕ} {d′ : List ℕ} → Replayed st → 4096 ≤ length d
+    → Wrote d 0 (printed (countsReport (st .counts) (st .read) (st .end))) n d′ → Prints n d′
+prints {st} r l w = record { some-text = r .whole-text; prints = stands (placed w (omega (arith, report-room (stateOf st [])))) ∙ prints-replayed r }

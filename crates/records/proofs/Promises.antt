@@ -9,7 +9,8 @@ use borrow.Author.Tests.{eqb-true}
 use Rattle.octets.specs.Classes.{text, within}
 use Rattle.sip.specs.Readings.{hasField}
 use Rattle.records.specs.Records.{Recorded}
-use Rattle.records.specs.History.{relayGroup, otherGroup, unreadGroup, Outcome, groupOf, reasonOf, outcomeOf, history}
+use Rattle.sip.specs.Calls.{noneHeld}
+use Rattle.records.specs.History.{relayGroup, otherGroup, unreadGroup, Outcome, groupOf, reasonOf, outcomeOf, callsLeft, historyFrom, history}
 use Rattle.records.specs.Report.{howMany, inGroupFor, table, withReason, lineOf}
 use Rattle.records.specs.Running.{total}
 use Rattle.records.specs.Promises.{OneGroup, AllReasons, UnreadApart}
@@ -25,15 +26,16 @@ unfolding table total lineOf
 all-reasons g rs = omega (arith, row-total g (listed rs), accepted-refused g (history rs))
 
 -- where no outcome is so, none of the history is
-none-so : (p : Outcome → Bool) → ((m : List ℕ) (side : ℕ) → p (outcomeOf m side) ≡ false) → (rs : List Recorded) → howMany p (history rs) ≡ 0
-unfolding history howMany
-none-so p e [] = refl
-none-so p e (r ∷ rs) = rw (e (r .message) (r .side)) (none-so p e rs)
+none-so : (p : Outcome → Bool) → ((m : List ℕ) (side : ℕ) (table : List ℕ) → p (outcomeOf m side table) ≡ false)
+    → (table : List ℕ) (rs : List Recorded) → howMany p (historyFrom table rs) ≡ 0
+unfolding historyFrom howMany
+none-so p e table [] = refl
+none-so p e table (r ∷ rs) = rw (e (r .message) (r .side) table) (none-so p e (callsLeft (r .message) (r .side) table) rs)
 
 -- the group of a message follows from its reason
 none-for : (g r : ℕ) → ((m : List ℕ) → eqb (groupOf m r) g ≡ false) → (rs : List Recorded) → withReason g (history rs) r ≡ 0
-unfolding outcomeOf
-none-for g r e = none-so (inGroupFor g r) (λ m side. go m (reasonOf m side) (eqb (reasonOf m side) r) refl)
+unfolding outcomeOf history
+none-for g r e = none-so (inGroupFor g r) (λ m side table. go m (reasonOf m side table) (eqb (reasonOf m side table) r) refl) noneHeld
   where
     none : (t : Bool) → (t && false) ≡ false
     none true = refl

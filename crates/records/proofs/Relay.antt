@@ -160,16 +160,18 @@ unfolding groupOf
 other-group m r e n = rw (e, n)
 
 pub relay-not-cause : RelayNotCause
-relay-not-cause m side e =
-    let read : within 1 5 (reasonOf m side) ≡ false = relay-read m (reasonOf m side) e in
-    let h = groups-read m side read in
+relay-not-cause m side table e =
+    let read : within 1 5 (reasonOf m side table) ≡ false = relay-read m (reasonOf m side table) e in
+    let h = groups-read m side table read in
     let p = removed m (everything m (h .line) (h .header) (h .reads) .change) in
-    let k : reasonOf (p .plain) side ≡ reasonOf m side = sym (same-reason (p .plain) m side (p .change)) in
+    let (a, b) = same-reason (p .plain) m side table (p .change) in
+    let k : reasonOf (p .plain) side table ≡ reasonOf m side table = sym a in
     record {
       plain = p .plain;
       change = p .change;
       other-fields = p .other-fields;
       has-none = p .has-none;
       reason-kept = k;
-      among-others = rw k (other-group (p .plain) (reasonOf m side) read (p .has-none));
+      calls-kept = sym b;
+      among-others = rw k (other-group (p .plain) (reasonOf m side table) read (p .has-none));
     }

@@ -6,10 +6,10 @@ use native.Mathlib.Omega.{arith}
 use Rattle.records.specs.Records.{recording}
 use Rattle.records.specs.History.{Outcome, history}
 use Rattle.records.specs.Report.{howMany, came, withReason, refusals, table, lineOf, report, printed, replayed}
-use Rattle.records.specs.Running.{isAt, countsOf, countIn, finished, total, rowOf, rowLine, countsReport, reportOf}
+use Rattle.records.specs.declared.Replay.{Replay}
+use Rattle.records.specs.Running.{isAt, countsOf, countIn, finished, total, rowOf, rowLine, countsReport}
 use Rattle.records.specs.Pieces.{Replayed}
 use Rattle.records.specs.Promises.{SameReport}
-use Rattle.records.specs.declared.Replay.{Replay}
 use Rattle.records.proofs.Counting.{accepted-refused, Listed}
 use Rattle.records.proofs.Tables.{table-same, table-at, table-move, at-reason, row-total}
 use Rattle.records.proofs.Steps.{listed}
@@ -40,6 +40,6 @@ same-report t =
     rw (line-counts 0 (omega arith) l {k = 0} refl, line-counts 1 (omega arith) l {k = 20} refl, line-counts 2 (omega arith) l {k = 40} refl)
 
 -- what is printed at the end is what a replay of the text prints
-pub prints-replayed : {st : Replay} → (r : Replayed st) → printed (reportOf st) ≡ replayed (r .whole-text)
+pub prints-replayed : {st : Replay} → (r : Replayed st) → printed (countsReport (st .counts) (st .read) (st .end)) ≡ replayed (r .whole-text)
 unfolding replayed
 prints-replayed r = rw (r .is-its) (ap printed (same-report (recording (r .whole-text))))

@@ -12,11 +12,11 @@ use Rattle.octets.specs.Classes.{text, within}
 use Rattle.sip.specs.Readings.{hasField}
 use Rattle.records.specs.Records.{Recorded, mark, marked, messageSize, recordSize, recordAt, refusalAt, Recording, endsWith, withRecord}
 use Rattle.records.specs.Records.{wholeRecords, mostRecords, limited}
-use Rattle.records.specs.History.{groupOf, reasonOf, outcomeOf, history}
-use Rattle.records.specs.Running.{after, ended, mostCount, taken, goesOn, stepped}
+use Rattle.sip.specs.Calls.{noneHeld}
+use Rattle.records.specs.History.{groupOf, reasonOf, callsLeft, outcomeOf, historyFrom, callsThrough, history}
+use Rattle.records.specs.Running.{State, after, ended, mostCount, taken, goesOn, stepped}
 use Rattle.records.specs.Pieces.{joinedTo}
 use Rattle.records.specs.Promises.{Carried}
-use Rattle.records.specs.declared.Replay.{Replay}
 use Rattle.records.proofs.Reasons.{reason-few}
 use Rattle.records.proofs.Counting.{Listed, none-seen, one-seen}
 use Rattle.records.proofs.Tables.{counts-last}
@@ -105,15 +105,26 @@ records-front p s e x =
 
 -- ---- the history, record by record
 
-history-last : (rs : List Recorded) (r : Recorded) → history (rs ++ r ∷ []) ≡ history rs ++ outcomeOf (r .message) (r .side) ∷ []
-unfolding history
-history-last [] r = refl
-history-last (x ∷ rs) r = rw (history-last rs r)
+history-last : (table : List ℕ) (rs : List Recorded) (r : Recorded)
+    → historyFrom table (rs ++ r ∷ []) ≡ historyFrom table rs ++ outcomeOf (r .message) (r .side) (callsThrough table rs) ∷ []
+unfolding historyFrom callsThrough
+history-last table [] r = refl
+history-last table (x ∷ rs) r = rw (history-last (callsLeft (x .message) (x .side) table) rs r)
+
+calls-last : (table : List ℕ) (rs : List Recorded) (r : Recorded)
+    → callsThrough table (rs ++ r ∷ []) ≡ callsLeft (r .message) (r .side) (callsThrough table rs)
+unfolding callsThrough
+calls-last table [] r = refl
+calls-last table (x ∷ rs) r = calls-last (callsLeft (x .message) (x .side) table) rs r
+
+length-from : (table : List ℕ) (rs : List Recorded) → length (historyFrom table rs) ≡ length rs
+unfolding historyFrom
+length-from table [] = refl
+length-from table (r ∷ rs) = ap suc (length-from (callsLeft (r .message) (r .side) table) rs)
 
 pub history-length : (rs : List Recorded) → length (history rs) ≡ length rs
 unfolding history
-history-length [] = refl
-history-length (r ∷ rs) = ap suc (history-length rs)
+history-length rs = length-from noneHeld rs
 
 group-few : (m : List ℕ) (n : ℕ) → groupOf m n < 3
 unfolding groupOf
@@ -124,24 +135,37 @@ group-few m n = go (within 1 5 n) (hasField m (text "X-Relay-Mode"))
     go false true = omega arith
     go false false = omega arith
 
-seen-few : (m : List ℕ) (side : ℕ) → (outcomeOf m side .group < 3) × (outcomeOf m side .reason < 20)
+seen-few : (m : List ℕ) (side : ℕ) (table : List ℕ) → (outcomeOf m side table .group < 3) × (outcomeOf m side table .reason < 20)
 unfolding outcomeOf
-seen-few m side = (group-few m (reasonOf m side), reason-few m side)
+seen-few m side table = (group-few m (reasonOf m side table), reason-few m side table)
+
+listed-from : (table : List ℕ) (rs : List Recorded) → Listed (historyFrom table rs)
+unfolding historyFrom
+listed-from table [] = none-seen
+listed-from table (r ∷ rs) =
+    let (a, b) = seen-few (r .message) (r .side) table in
+    one-seen a b (listed-from (callsLeft (r .message) (r .side) table) rs)
 
 pub listed : (rs : List Recorded) → Listed (history rs)
 unfolding history
-listed [] = none-seen
-listed (r ∷ rs) = let (a, b) = seen-few (r .message) (r .side) in one-seen a b (listed rs)
+listed rs = listed-from noneHeld rs
 
 -- ---- one record more
 
 pub carried : Carried
-unfolding taken
+unfolding taken history
 carried rs r l =
-    let (a, b) = seen-few (r .message) (r .side) in
+    let t : List ℕ = callsThrough noneHeld rs in
+    let (a, b) = seen-few (r .message) (r .side) t in
     let few : length (history rs) < mostCount = omega (arith, history-length rs) in
     let n : length (rs ++ r ∷ []) ≡ length rs + 1 = length-append rs (r ∷ []) in
-    rw (lt-ltb (length rs) mostRecords l, history-last rs r, n, ← counts-last (history rs) (outcomeOf (r .message) (r .side)) (few, a, b))
+    rw (
+      lt-ltb (length rs) mostRecords l,
+      history-last noneHeld rs r,
+      calls-last noneHeld rs r,
+      n,
+      ← counts-last (historyFrom noneHeld rs) (outcomeOf (r .message) (r .side) t) (few, a, b),
+    )
 
 pub taken-full : (rs : List Recorded) (side : ℕ) (m : List ℕ) → mostRecords ≤ length rs → taken (after rs) side m ≡ ended (after rs) 33
 unfolding taken
@@ -166,12 +190,12 @@ limit-over n rs t q l =
 
 -- ---- one step, of a text that has not ended and goes on
 
-goes-by : (st : Replay) (p : List ℕ) → 0 < length p
+goes-by : (st : State) (p : List ℕ) → 0 < length p
     → goesOn st p ≡ cond (eqb (refusalAt p) 0) (taken st (recordAt p .side) (recordAt p .message)) (ended st (refusalAt p))
 goes-by st [] l = absurd (omega arith)
 goes-by st (b ∷ s) l = refl
 
-module _ (st : Replay) (p : List ℕ) (going : st .end ≡ 0) (some : 0 < length p) where
+module _ (st : State) (p : List ℕ) (going : st .end ≡ 0) (some : 0 < length p) where
   stepped-by : stepped st p ≡ cond (eqb (refusalAt p) 0) (taken st (recordAt p .side) (recordAt p .message)) (ended st (refusalAt p))
   unfolding stepped
   stepped-by = ap (λ (n : ℕ). cond (eqb n 0) (goesOn st p) st) going ∙ goes-by st p some

@@ -9,9 +9,10 @@ use lib.ListN.{length, take, getD, length-append, length-take, List·getD-append
 use lib.Seq.{length-take-le, take-append-add, take-append-le}
 use borrow.Author.Tests.{ltb-true, ltb-false, lt-leb, eqb-true, eqb-false}
 use Rattle.records.specs.Records.{marked, messageSize, recordSize, refusalAt, mostRecords}
-use Rattle.records.specs.Running.{after, taken, stepped}
-use Rattle.records.specs.Pieces.{wanted, IsPiece, Pieces, last-piece, next-piece, steppedAll, joinedPieces, Replayed, Filled}
+use Rattle.sip.specs.Calls.{noneHeld}
 use Rattle.records.specs.declared.Replay.{Replay}
+use Rattle.records.specs.Running.{State, stateOf, numbersIn, after, taken, stepped}
+use Rattle.records.specs.Pieces.{wanted, IsPiece, Pieces, last-piece, next-piece, steppedAll, joinedPieces, Replayed, Filled}
 use Rattle.records.proofs.Steps.{whole-fits, step-whole, step-bad}
 use Rattle.records.proofs.Written.{piece-by-piece}
 
@@ -64,12 +65,12 @@ module _ (a d : List ℕ) (l : 65540 ≤ length d) (same-long : length a ≡ len
 
 -- ---- one record was counted where the text has not ended
 
-record Counted (st : Replay) (p : List ℕ) : Type 0 where
+record Counted (st : State) (p : List ℕ) : Type 0 where
   whole : refusalAt p ≡ 0
   not-full : st .read < mostRecords
   one-read : stepped st p .read ≡ st .read + 1
 
-step-counted : (st : Replay) (p : List ℕ) → st .end ≡ 0 → 0 < length p → stepped st p .end ≡ 0 → Counted st p
+step-counted : (st : State) (p : List ℕ) → st .end ≡ 0 → 0 < length p → stepped st p .end ≡ 0 → Counted st p
 unfolding taken
 step-counted st p going some z = go (eqb (refusalAt p) 0) (ltb (st .read) mostRecords) refl refl
   where
@@ -87,7 +88,7 @@ step-counted st p going some z = go (eqb (refusalAt p) 0) (ltb (st .read) mostRe
 -- ---- all turns
 
 -- before a turn, of which so many are left: the pieces so far are whole records, and what is carried is theirs
-pub record Turn (st : Replay) (left : ℕ) : Type 0 where
+pub record Turn (st : State) (left : ℕ) : Type 0 where
   pieces : List (List ℕ)
   before : (ps : List (List ℕ)) → Pieces ps → Pieces (pieces ++ ps)
   state : st ≡ steppedAll (after []) pieces
@@ -99,40 +100,46 @@ turn-begin : Turn (after []) 1000001
 unfolding steppedAll
 turn-begin = record { pieces = []; before = λ ps h. h; state = refl; going = refl; few = omega arith; turns = refl }
 
-pub turn-first : {st : Replay} → st ≡ after [] → Turn st 1000001
+pub turn-first : {st : Replay} → stateOf st noneHeld ≡ after [] → Turn (stateOf st noneHeld) 1000001
 turn-first e = rw e turn-begin
 
-steps-last : (st : Replay) (ps : List (List ℕ)) (p : List ℕ) → steppedAll st (ps ++ p ∷ []) ≡ stepped (steppedAll st ps) p
+steps-last : (st : State) (ps : List (List ℕ)) (p : List ℕ) → steppedAll st (ps ++ p ∷ []) ≡ stepped (steppedAll st ps) p
 unfolding steppedAll
 steps-last st [] p = refl
 steps-last st (q ∷ ps) p = steps-last (stepped st q) ps p
 
-module _ (st : Replay) (left : ℕ) (t : Turn st left) where
+module _ (numbers : Replay) (calls : List ℕ) (left : ℕ) (t : Turn (stateOf numbers calls) left) where
+  abbrev st : State
+  st = stateOf numbers calls
+
   one-piece : (p : List ℕ) → stepped st p ≡ steppedAll (after []) (t .pieces ++ p ∷ [])
-  one-piece p = ap (λ (s : Replay). stepped s p) (t .state) ∙ sym (steps-last (after []) (t .pieces) p)
+  one-piece p = ap (λ (s : State). stepped s p) (t .state) ∙ sym (steps-last (after []) (t .pieces) p)
 
   -- the text may end with any piece
-  may-end : (p : List ℕ) → IsPiece p → Replayed (stepped st p)
+  may-end : (p : List ℕ) → IsPiece p → Replayed (numbersIn (stepped st p))
   may-end p x =
       let ps : List (List ℕ) = t .pieces ++ p ∷ [] in
-      record { whole-text = joinedPieces ps; is-its = one-piece p ∙ piece-by-piece ps (t .before (p ∷ []) (last-piece x)) }
+      record { whole-text = joinedPieces ps; is-its = ap numbersIn (one-piece p ∙ piece-by-piece ps (t .before (p ∷ []) (last-piece x))) }
 
-  pub turn-none : Replayed st
+  pub turn-none : Replayed numbers
   unfolding stepped
   turn-none = let z : stepped st [] ≡ st = rw (t .going) in rw z at (may-end [] (λ e. absurd (omega (arith, whole-fits [] e))))
 
   -- n bytes were read to the front of a space that was d
   module _ (space d : List ℕ) (long : length d ≡ 65540) (same-long : length space ≡ length d) (n : ℕ) (some : 1 ≤ n) (i : IsPiece (take n space))
-      {p : List ℕ} (hp : p ≡ take n space) {r : Replay} (e : r ≡ stepped st p) where
+      {p : List ℕ} (hp : p ≡ take n space) {r : Replay} {after-it : List ℕ} (e : stateOf r after-it ≡ stepped st p) where
     pub turn-over : (r .end ≡ 0 → ⊥) → Replayed r
-    turn-over _ = rw (e, hp) (may-end (take n space) i)
+    turn-over _ =
+        let a : r ≡ numbersIn (stepped st (take n space)) = ap numbersIn (e ∙ ap (stepped st) hp) in
+        rw a (may-end (take n space) i)
 
-    pub turn-next : {k : ℕ} → r .end ≡ 0 → 0 < left → k ≡ left - 1 → Turn r k
+    pub turn-next : {k : ℕ} → r .end ≡ 0 → 0 < left → k ≡ left - 1 → Turn (stateOf r after-it) k
     turn-next z l y =
         let q : List ℕ = take n space in
-        let a : r ≡ stepped st q = e ∙ ap (stepped st) hp in
-        let c = step-counted st q (t .going) (omega (arith, length-take n space)) (rw a at z) in
-        let one : r .read ≡ st .read + 1 = ap (λ (s : Replay). s .read) a ∙ c .one-read in
+        let a : stateOf r after-it ≡ stepped st q = e ∙ ap (stepped st) hp in
+        let ends : stepped st q .end ≡ 0 = ap (λ (s : State). s .end) (sym a) ∙ z in
+        let c = step-counted st q (t .going) (omega (arith, length-take n space)) ends in
+        let one : r .read ≡ st .read + 1 = ap (λ (s : State). s .read) a ∙ c .one-read in
         record {
           pieces = t .pieces ++ q ∷ [];
           before = λ ps h. rw append-assoc (t .before (q ∷ ps) (next-piece (c .whole) i h));
@@ -143,5 +150,5 @@ module _ (st : Replay) (left : ℕ) (t : Turn st left) where
         }
 
   -- there are as many turns as a text can have records, and one more
-  pub turn-last : left ≤ 0 → Replayed st
+  pub turn-last : left ≤ 0 → Replayed numbers
   turn-last l = absurd (omega (arith, t .turns, t .few))

@@ -9,36 +9,37 @@ use lib.ListN.{length, drop, length-append, length-drop}
 use lib.Seq.{append-snoc, drop-drop}
 use borrow.Author.Tests.{ltb-true, ltb-false, eqb-true, eqb-false}
 use Rattle.records.specs.Records.{Recorded, recordSize, recordAt, refusalAt, endsWith, withRecord, wholeRecords, mostRecords, recording}
-use Rattle.records.specs.Running.{after, ended, finished, taken, stepped}
-use Rattle.records.specs.Pieces.{joinedTo}
+use Rattle.sip.specs.Calls.{noneHeld}
 use Rattle.records.specs.declared.Replay.{Replay}
+use Rattle.records.specs.Running.{State, stateOf, numbersIn, after, ended, finished, taken, stepped}
+use Rattle.records.specs.Pieces.{joinedTo}
 use Rattle.records.proofs.Steps.{records-none, records-next, records-end, whole-fits, carried, taken-full, limit-none, limit-over, step-whole, step-bad}
 
 -- the records before a place are taken
-pub record Before (text : List ℕ) (st : Replay) (at : ℕ) : Type 0 where
+pub record Before (text : List ℕ) (st : State) (at : ℕ) : Type 0 where
   pub done : List Recorded
   pub few : length done ≤ mostRecords
   pub state : st ≡ after done
   pub goes-on : wholeRecords 0 text ≡ joinedTo done (wholeRecords 0 (drop at text))
 
-pub before-all : (text : List ℕ) {st : Replay} → st ≡ after [] → Before text st 0
+pub before-all : (text : List ℕ) {st : Replay} → stateOf st noneHeld ≡ after [] → Before text (stateOf st noneHeld) 0
 before-all text e = record { done = []; few = omega arith; state = e; goes-on = refl }
 
-module _ (text : List ℕ) (st : Replay) (at : ℕ) (h : Before text st at) where
+module _ (text : List ℕ) (st : State) (at : ℕ) (h : Before text st at) where
   -- the text has no whole record from there on
   ended-so : (e : ℕ) → wholeRecords 0 (drop at text) ≡ endsWith e → ended st e ≡ finished (recording text)
   unfolding recording finished
   ended-so e q =
       rw (h .goes-on, q, limit-none mostRecords (h .done) (h .few) e, h .state)
 
-  pub at-end : length text ≤ at → st ≡ finished (recording text)
-  at-end l = go (drop at text) refl
+  all-taken : length text ≤ at → st ≡ finished (recording text)
+  all-taken l = go (drop at text) refl
     where
       go : (s : List ℕ) → drop at text ≡ s → st ≡ finished (recording text)
       go [] q = let z : st ≡ ended st 0 = rw (h .state) in z ∙ ended-so 0 (rw q records-none)
       go (b ∷ s) q = absurd (omega (arith, ap length q, length-drop at text))
 
-  module _ (here : at < length text) {p : List ℕ} (hp : p ≡ drop at text) {r : Replay} (hr : r ≡ stepped st p) where
+  module _ (here : at < length text) {p : List ℕ} (hp : p ≡ drop at text) {r : State} (hr : r ≡ stepped st p) where
     some : 0 < length p
     some = omega (arith, ap length hp, length-drop at text)
 
@@ -81,7 +82,7 @@ module _ (text : List ℕ) (st : Replay) (at : ℕ) (h : Before text st at) wher
           let n : mostRecords ≡ length (h .done) = omega (arith, h .few) in
           record {
             ends = λ _. a ∙ rw (reads, limit-over mostRecords (h .done) (withRecord x (wholeRecords 0 (drop (recordSize p) p))) n (omega arith), h .state);
-            goes = λ z. absurd (omega (arith, ap (λ (k : Replay). k .end) a, z));
+            goes = λ z. absurd (omega (arith, ap (λ (k : State). k .end) a, z));
             inside = λ _. whole-fits p e;
           }
 
@@ -100,25 +101,32 @@ module _ (text : List ℕ) (st : Replay) (at : ℕ) (h : Before text st at) wher
         go false j =
             let nz : refusalAt p ≡ 0 → ⊥ = eqb-false (refusalAt p) 0 j in
             let a : r ≡ ended st (refusalAt p) = hr ∙ step-bad st p going some nz in
-            let b : r .end ≡ refusalAt p = ap (λ (k : Replay). k .end) a in
+            let b : r .end ≡ refusalAt p = ap (λ (k : State). k .end) a in
             record {
               ends = λ _. a ∙ ended-so (refusalAt p) (rw (← hp) (records-end p some nz));
               goes = λ z. absurd (nz (sym b ∙ z));
               inside = λ z. absurd (nz (sym b ∙ z));
             }
 
-    pub whole-over : (r .end ≡ 0 → ⊥) → r ≡ finished (recording text)
-    whole-over z = over .ends z
+-- the same of the numbers and the table that the code has
+module _ (text : List ℕ) (st : Replay) (calls : List ℕ) (at : ℕ) (h : Before text (stateOf st calls) at) where
+  pub at-end : length text ≤ at → st ≡ numbersIn (finished (recording text))
+  at-end l = ap numbersIn (all-taken text (stateOf st calls) at h l)
+
+  module _ (here : at < length text) {p : List ℕ} (hp : p ≡ drop at text) {r : Replay} {left : List ℕ}
+      (hr : stateOf r left ≡ stepped (stateOf st calls) p) where
+    pub whole-over : (r .end ≡ 0 → ⊥) → r ≡ numbersIn (finished (recording text))
+    whole-over z = ap numbersIn (over text (stateOf st calls) at h here hp hr .ends z)
 
     module _ (z : r .end ≡ 0) {size : ℕ} (hs : size ≡ recordSize p) where
       pub next-inside : {k : ℕ} → k ≡ at + size → k ≤ length text
-      next-inside y = omega (arith, over .inside z, ap length hp, length-drop at text)
+      next-inside y = omega (arith, over text (stateOf st calls) at h here hp hr .inside z, ap length hp, length-drop at text)
 
       pub next-fits : length text < 2 ^ 64 → {k : ℕ} → k ≡ at + size → k < 2 ^ 64
       next-fits m y = omega (arith, next-inside y)
 
-      pub next-before : {k : ℕ} → k ≡ at + size → Before text r k
-      next-before y = let w : at + recordSize p ≡ at + size = omega arith in rw (y, ← w) (over .goes z)
+      pub next-before : {k : ℕ} → k ≡ at + size → Before text (stateOf r left) k
+      next-before y = let w : at + recordSize p ≡ at + size = omega arith in rw (y, ← w) (over text (stateOf st calls) at h here hp hr .goes z)
 
       pub next-less : {k : ℕ} → k ≡ at + size → length text - k < length text - at
       next-less y = omega (arith, next-inside y)

@@ -12,10 +12,9 @@ use Rattle.octets.specs.Classes.{text}
 use Rattle.octets.specs.Scans.{same}
 use Rattle.records.specs.Records.{Recorded, mark, recordBytes, marked, recordSize, recordAt, refusalAt, Recording, endsWith, withRecord}
 use Rattle.records.specs.Records.{wholeRecords, mostRecords, limited, recording}
-use Rattle.records.specs.Running.{after, ended, finished, taken, stepped}
+use Rattle.records.specs.Running.{State, after, ended, finished, taken, stepped}
 use Rattle.records.specs.Pieces.{IsPiece, Pieces, last-piece, next-piece, steppedAll, joinedPieces, joinedTo}
 use Rattle.records.specs.Promises.{takenAll, OneByOne, PieceByPiece, written, WrittenRead, AsText}
-use Rattle.records.specs.declared.Replay.{Replay}
 use Rattle.records.proofs.Steps.{records-none, records-end, records-front, carried, taken-full, limit-none, limit-over, step-whole, step-bad}
 
 -- ---- written and read
@@ -47,11 +46,11 @@ written-read (r ∷ rs) s =
 -- ---- one by one
 
 -- nothing is taken after the end
-taken-ended : (st : Replay) (e : ℕ) (side : ℕ) (m : List ℕ) → (e ≡ 0 → ⊥) → taken (ended st e) side m ≡ ended st e
+taken-ended : (st : State) (e : ℕ) (side : ℕ) (m : List ℕ) → (e ≡ 0 → ⊥) → taken (ended st e) side m ≡ ended st e
 unfolding taken
 taken-ended st e side m nz = rw (ne-eqb e 0 nz)
 
-all-ended : (st : Replay) (e : ℕ) → (e ≡ 0 → ⊥) → (rs : List Recorded) → takenAll (ended st e) rs ≡ ended st e
+all-ended : (st : State) (e : ℕ) → (e ≡ 0 → ⊥) → (rs : List Recorded) → takenAll (ended st e) rs ≡ ended st e
 unfolding takenAll
 all-ended st e nz [] = refl
 all-ended st e nz (r ∷ rs) = rw (taken-ended st e (r .side) (r .message) nz) (all-ended st e nz rs)
@@ -71,12 +70,12 @@ taken-from done (r ∷ rs) l = go (ltb (length done) mostRecords) refl (λ a b. 
     go true q later =
         let k : length done < mostRecords = ltb-true (length done) mostRecords q in
         let n : length (done ++ r ∷ []) ≤ mostRecords = omega (arith, length-append done (r ∷ [])) in
-        ap (λ (s : Replay). takenAll s rs) (carried done r k) ∙ later k n
+        ap (λ (s : State). takenAll s rs) (carried done r k) ∙ later k n
         ∙ ap (λ (xs : List Recorded). finished (limited mostRecords (only xs))) (append-snoc done r rs)
     go false q later =
         let k : mostRecords ≤ length done = ltb-false (length done) mostRecords q in
         let n : mostRecords ≡ length done = omega arith in
-        ap (λ (s : Replay). takenAll s rs) (taken-full done (r .side) (r .message) k)
+        ap (λ (s : State). takenAll s rs) (taken-full done (r .side) (r .message) k)
         ∙ all-ended (after done) 33 (λ z. omega (arith, z)) rs
         ∙ rw (limit-over mostRecords done (withRecord r (only rs)) n (omega arith))
 
@@ -91,18 +90,18 @@ as-text rs =
 
 -- ---- piece by piece
 
-step-ended : (st : Replay) (e : ℕ) (p : List ℕ) → (e ≡ 0 → ⊥) → stepped (ended st e) p ≡ ended st e
+step-ended : (st : State) (e : ℕ) (p : List ℕ) → (e ≡ 0 → ⊥) → stepped (ended st e) p ≡ ended st e
 unfolding stepped
 step-ended st e p nz = rw (ne-eqb e 0 nz)
 
-steps-ended : (st : Replay) (e : ℕ) → (e ≡ 0 → ⊥) → (ps : List (List ℕ)) → steppedAll (ended st e) ps ≡ ended st e
+steps-ended : (st : State) (e : ℕ) → (e ≡ 0 → ⊥) → (ps : List (List ℕ)) → steppedAll (ended st e) ps ≡ ended st e
 unfolding steppedAll
 steps-ended st e nz [] = refl
 steps-ended st e nz (p ∷ ps) = rw (step-ended st e p nz) (steps-ended st e nz ps)
 
 -- what one piece gives
 module _ (done : List Recorded) (l : length done ≤ mostRecords) where
-  abbrev gives : List ℕ → Replay
+  abbrev gives : List ℕ → State
   gives s = finished (limited mostRecords (joinedTo done (wholeRecords 0 s)))
 
   ended-gives : (p : List ℕ) (e : ℕ) → wholeRecords 0 p ≡ endsWith e → ended (after done) e ≡ gives p
@@ -133,11 +132,11 @@ piece-then done l p ps e x later = go (ltb (length done) mostRecords) refl
     go true q =
         let k : length done < mostRecords = ltb-true (length done) mostRecords q in
         let n : length (done ++ r ∷ []) ≤ mostRecords = omega (arith, length-append done (r ∷ [])) in
-        ap (λ (s : Replay). steppedAll s ps) (first ∙ carried done r k) ∙ later (done ++ r ∷ []) n
+        ap (λ (s : State). steppedAll s ps) (first ∙ carried done r k) ∙ later (done ++ r ∷ []) n
         ∙ rw (records-front p (joinedPieces ps) e x, append-snoc done r (wholeRecords 0 (joinedPieces ps) .records))
     go false q =
         let k : mostRecords ≤ length done = ltb-false (length done) mostRecords q in
-        ap (λ (s : Replay). steppedAll s ps) (first ∙ taken-full done (r .side) (r .message) k)
+        ap (λ (s : State). steppedAll s ps) (first ∙ taken-full done (r .side) (r .message) k)
         ∙ steps-ended (after done) 33 (λ z. omega (arith, z)) ps ∙ too-many done l p (joinedPieces ps) e x k
 
 none-after : (done : List Recorded) (l : length done ≤ mostRecords) → steppedAll (after done) [] ≡ gives done l (joinedPieces [])

@@ -117,6 +117,31 @@ examples =
     ∷ row (onSide 0 [] ++ 83 ∷ 78 ∷ 0 ∷ 0 ∷ 2 ∷ 65 ∷ []) "relay 0 0 0" "other 0 0 0" "unread 1 0 10000 3=1" "end 1 32"
     ∷ []
 
+-- ---- CR 8: "A replay starts with none held", and the table goes from record to record
+
+-- a withheld INVITE with the Call-ID of one byte b, and a BYE of the same call
+abbrev hiddenInvite : ℕ → List ℕ
+hiddenInvite b =
+    text "INVITE sip:112@h SIP/2.0\r\nv: x\r\nMax-Forwards: 9\r\nf: <sip:h>;tag=a\r\nt: sip:h\r\ni: "
+    ++ b ∷ text "\r\nCSeq: 1 INVITE\r\nm: x\r\nAllow:\r\nP-Asserted-Identity: tel:+33187654321\r\nPrivacy: id\r\n\r\n"
+
+abbrev itsBye : ℕ → List ℕ
+itsBye b =
+    text "BYE sip:112@h SIP/2.0\r\nv: x\r\nMax-Forwards: 9\r\nf: <sip:h>;tag=a\r\nt: sip:h;tag=b\r\ni: " ++ b ∷ text "\r\nCSeq: 2 BYE\r\n\r\n"
+
+-- such INVITEs to side 1 with n Call-IDs, from b on
+unfoldable pub hiddenInvites : ℕ → ℕ → List ℕ
+hiddenInvites zero b = []
+hiddenInvites (suc n) b = onSide 1 (hiddenInvite b) ++ hiddenInvites n (suc b)
+
+unfoldable pub callExamples : List Example
+callExamples =
+    -- "18 .. when a new pair meets 32 held ones"
+    row (hiddenInvites 33 33) "relay 0 0 0" "other 33 32 303 18=1" "unread 0 0 0" "end 33 0"
+    -- and not where a BYE has removed one
+    ∷ row (hiddenInvites 32 33 ++ (onSide 1 (itsBye 56) ++ hiddenInvites 1 65)) "relay 0 0 0" "other 34 34 0" "unread 0 0 0" "end 34 0"
+    ∷ []
+
 pub data AllPrint : List Example → Type 0 where
   no-example : AllPrint []
   example : {x : Example} {xs : List Example} → replayed (x .given) ≡ x .prints → AllPrint xs → AllPrint (x ∷ xs)

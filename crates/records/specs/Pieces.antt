@@ -7,7 +7,7 @@ use lib.Dec.{leb}
 use lib.ListN.{length, take}
 use Rattle.records.specs.Records.{Recorded, Recording, marked, messageSize, recordSize, refusalAt, recording}
 use Rattle.records.specs.Report.{replayed}
-use Rattle.records.specs.Running.{finished, stepped}
+use Rattle.records.specs.Running.{numbersIn, State, finished, stepped}
 use Rattle.records.specs.declared.Replay.{Replay}
 
 -- how many bytes are to be read after the first five: those of the message, and none where those five are not there or are no record's
@@ -23,7 +23,7 @@ pub data Pieces : List (List ℕ) → Type 0 where
   last-piece : {p : List ℕ} → IsPiece p → Pieces (p ∷ [])
   next-piece : {p : List ℕ} {ps : List (List ℕ)} → refusalAt p ≡ 0 → IsPiece p → Pieces ps → Pieces (p ∷ ps)
 
-unfoldable pub steppedAll : Replay → List (List ℕ) → Replay
+unfoldable pub steppedAll : State → List (List ℕ) → State
 steppedAll st [] = st
 steppedAll st (p ∷ ps) = steppedAll (stepped st p) ps
 
@@ -48,7 +48,7 @@ pub record Filled (a b : List ℕ) (len got : ℕ) : Type 0 where
 -- what is left of the replay of some text
 pub record Replayed (st : Replay) : Type 0 where
   pub whole-text : List ℕ
-  pub is-its : st ≡ finished (recording whole-text)
+  pub is-its : st ≡ numbersIn (finished (recording whole-text))
 
 -- the first r bytes are what a replay of some text prints
 pub record Prints (r : ℕ) (out : List ℕ) : Type 0 where

@@ -1,7 +1,7 @@
 -- What holds of every replay, as statements; their proofs are in proofs/.
 use mathlib.Core.Path.{_≡_}
 use mathlib.Core.Bool.{true, false, cond}
-use mathlib.Core.List.{List, [], _∷_, _++_}
+use mathlib.Core.List.{List, [], _∷_, _++_, map}
 use Prim.Native.Nat.{ℕ, _+_, _≤_, _<_}
 use lib.Dec.{eqb}
 use lib.ListN.{length}
@@ -9,15 +9,17 @@ use Rattle.octets.specs.Classes.{text, within, among}
 use Rattle.octets.specs.Scans.{all, sameText}
 use Rattle.sip.specs.Lines.{Start, Field, Header}
 use Rattle.sip.specs.Refusals.{lines, read}
+use Rattle.sip.specs.Calls.{noneHeld}
 use Rattle.sip.specs.Screen.{screened}
+use Rattle.sip.specs.History.{Operation, screening, answered, tableAfter, tableThrough}
+use Rattle.sip.specs.Starred.{blankBuffer}
 use Rattle.sip.specs.Readings.{hasField}
 use Rattle.sip.specs.Change.{Changed}
 use Rattle.records.specs.Records.{Recorded, recordBytes, refusalAt, Recording, wholeRecords, mostRecords, limited, recording}
-use Rattle.records.specs.History.{relayGroup, otherGroup, unreadGroup, Outcome, groupOf, reasonOf, history}
+use Rattle.records.specs.History.{relayGroup, otherGroup, unreadGroup, Outcome, groupOf, reasonOf, callsLeft, historyFrom, callsThrough, history}
 use Rattle.records.specs.Report.{came, withReason, refusals, lineOf, report, printed}
-use Rattle.records.specs.Running.{after, finished, taken, total, reportOf}
+use Rattle.records.specs.Running.{State, after, finished, taken, total, reportOf}
 use Rattle.records.specs.Pieces.{Pieces, steppedAll, joinedPieces, joinedTo}
-use Rattle.records.specs.declared.Replay.{Replay}
 
 -- ---- of the history
 
@@ -50,42 +52,80 @@ pub record Reads (m : List ℕ) : Type 0 where
   pub reads : lines m ≡ read line header
 
 abbrev pub GroupsRead : Type 0
-GroupsRead = (m : List ℕ) (side : ℕ) → within 1 5 (reasonOf m side) ≡ false → Reads m
+GroupsRead = (m : List ℕ) (side : ℕ) (table : List ℕ) → within 1 5 (reasonOf m side table) ≡ false → Reads m
 
--- no reason is above 17
+-- no reason is above 18
 abbrev pub FewReasons : Type 0
-FewReasons = (m : List ℕ) (side : ℕ) → reasonOf m side ≤ 17
+FewReasons = (m : List ℕ) (side : ℕ) (table : List ℕ) → reasonOf m side table ≤ 18
 
 -- "with room enough": no message is refused for room
 abbrev pub RoomEnough : Type 0
-RoomEnough = (m : List ℕ) (side : ℕ) → reasonOf m side ≡ 16 → ⊥
+RoomEnough = (m : List ℕ) (side : ℕ) (table : List ℕ) → reasonOf m side table ≡ 16 → ⊥
 
--- the reason that is counted is the screen's, with any buffer that has room
+-- the reason that is counted and the table that is left are the screen's, with any buffer that has room
 abbrev pub AnyRoom : Type 0
 AnyRoom =
-    (m : List ℕ) (side : ℕ) (b : List ℕ) → (screened m side b .answer .reason ≡ 16 → ⊥) → screened m side b .answer .reason ≡ reasonOf m side
+    (m : List ℕ) (side : ℕ) (table b : List ℕ) → (screened m side table b .answer .reason ≡ 16 → ⊥)
+    → (screened m side table b .answer .reason ≡ reasonOf m side table) × (screened m side table b .table ≡ callsLeft m side table)
 
--- demand 3: ignored fields, `X-Relay-Mode` among them, and other spellings of names do not change the reason that is counted
+-- demand 3: ignored fields, `X-Relay-Mode` among them, and other spellings of names change neither the reason that is counted nor the table that
+-- is left
 abbrev pub SameReason : Type 0
-SameReason = (m m′ : List ℕ) (side : ℕ) → Changed m m′ → reasonOf m′ side ≡ reasonOf m side
+SameReason =
+    (m m′ : List ℕ) (side : ℕ) (table : List ℕ) → Changed m m′
+    → (reasonOf m′ side table ≡ reasonOf m side table) × (callsLeft m′ side table ≡ callsLeft m side table)
+
+-- and so of any number of records: each as it was, or with such a change of its message
+pub data AllChanged : List Recorded → List Recorded → Type 0 where
+  no-record : AllChanged [] []
+  same-record : {r : Recorded} {rs rs′ : List Recorded} → AllChanged rs rs′ → AllChanged (r ∷ rs) (r ∷ rs′)
+  changed-record : {m m′ : List ℕ} {side : ℕ} {rs rs′ : List Recorded} → Changed m m′ → AllChanged rs rs′
+      → AllChanged (record { side = side; message = m } ∷ rs) (record { side = side; message = m′ } ∷ rs′)
+
+abbrev pub reasonsOf : List Outcome → List ℕ
+reasonsOf h = map (λ (x : Outcome). x .reason) h
+
+abbrev pub SameReasons : Type 0
+SameReasons =
+    (rs rs′ : List Recorded) (table : List ℕ) → AllChanged rs rs′
+    → (reasonsOf (historyFrom table rs′) ≡ reasonsOf (historyFrom table rs)) × (callsThrough table rs′ ≡ callsThrough table rs)
+
+-- CR 8: "A replay starts with none held": it is a history of operations from there on, of which the pairs held are those it leaves open. Each
+-- record is a screening
+unfoldable pub screenings : List Recorded → List Operation
+screenings [] = []
+screenings (r ∷ rs) = screening (r .message) (r .side) (blankBuffer 9216) ∷ screenings rs
+
+abbrev pub ReplayCalls : Type 0
+ReplayCalls = (rs : List Recorded) → callsThrough noneHeld rs ≡ tableThrough noneHeld (screenings rs)
+
+-- and the reasons are what they answer, each with the table that the one before leaves
+unfoldable pub answersThrough : List ℕ → List Operation → List ℕ
+answersThrough table [] = []
+answersThrough table (o ∷ os) = answered o table ∷ answersThrough (tableAfter o table) os
+
+abbrev pub ReplayReasons : Type 0
+ReplayReasons = (rs : List Recorded) → reasonsOf (history rs) ≡ answersThrough noneHeld (screenings rs)
 
 -- the fields of other names
 unfoldable pub without : List ℕ → List Field → List Field
 without name [] = []
 without name (f ∷ fs) = let others = without name fs in cond (sameText name (f .name)) others (f ∷ others)
 
--- no relay caller is refused for its `X-Relay-Mode`: the same message without it, all else as it was, has the same reason and stands among
--- the others. Of a message that is not read this is not said: the field may be the one too many (reason 5), or make the message too long (2)
-pub record Plain (m : List ℕ) (side : ℕ) : Type 0 where
+-- no relay caller is refused for its `X-Relay-Mode`: the same message without it, all else as it was, has the same reason, leaves the same
+-- table and stands among the others. Of a message that is not read this is not said: the field may be the one too many (reason 5), or make the message too long (2)
+pub record Plain (m : List ℕ) (side : ℕ) (table : List ℕ) : Type 0 where
   pub plain : List ℕ
   pub change : Changed plain m
   pub other-fields : change .fields ≡ without (text "X-Relay-Mode") (change .fields′)
   pub has-none : hasField plain (text "X-Relay-Mode") ≡ false
-  pub reason-kept : reasonOf plain side ≡ reasonOf m side
-  pub among-others : groupOf plain (reasonOf plain side) ≡ otherGroup
+  pub reason-kept : reasonOf plain side table ≡ reasonOf m side table
+  pub calls-kept : callsLeft plain side table ≡ callsLeft m side table
+  pub among-others : groupOf plain (reasonOf plain side table) ≡ otherGroup
 
 abbrev pub RelayNotCause : Type 0
-RelayNotCause = (m : List ℕ) (side : ℕ) → groupOf m (reasonOf m side) ≡ relayGroup → Plain m side
+RelayNotCause =
+    (m : List ℕ) (side : ℕ) (table : List ℕ) → groupOf m (reasonOf m side table) ≡ relayGroup → Plain m side table
 
 -- ---- of what is carried
 
@@ -94,7 +134,7 @@ abbrev pub Carried : Type 0
 Carried = (rs : List Recorded) (r : Recorded) → length rs < mostRecords → taken (after rs) (r .side) (r .message) ≡ after (rs ++ r ∷ [])
 
 -- any number of records, taken one by one
-unfoldable pub takenAll : Replay → List Recorded → Replay
+unfoldable pub takenAll : State → List Recorded → State
 takenAll st [] = st
 takenAll st (r ∷ rs) = takenAll (taken st (r .side) (r .message)) rs
 
@@ -107,7 +147,7 @@ SameReport = (t : Recording) → reportOf (finished t) ≡ report t
 
 -- 4,096 bytes are room for every report
 abbrev pub ReportRoom : Type 0
-ReportRoom = (st : Replay) → length (printed (reportOf st)) ≤ 4096
+ReportRoom = (st : State) → length (printed (reportOf st)) ≤ 4096
 
 -- reading piece by piece is the same as reading the whole
 abbrev pub PieceByPiece : Type 0

@@ -47,7 +47,7 @@ unfoldable pub table : ℕ → ℕ → (ℕ → ℕ) → List ℕ
 table zero i f = []
 table (suc n) i f = f i ∷ table n (suc i) f
 
--- a line of the report. `refused` has the counts of reasons 1 to 19: none is above 17 (`FewReasons`), and none is left out (`AllReasons`)
+-- a line of the report. `refused` has the counts of reasons 1 to 19: none is above 18 (`FewReasons`), and none is left out (`AllReasons`)
 pub record Line : Type 0 where
   pub came : ℕ
   pub accepted : ℕ

@@ -6,9 +6,24 @@ use lib.Dec.{ltb, eqb}
 use lib.ListN.{length, drop, getD, set}
 use Rattle.sip.specs.Output.{spaced}
 use Rattle.records.specs.Records.{Recorded, Recording, recordAt, refusalAt, mostRecords}
-use Rattle.records.specs.History.{Outcome, outcomeOf, history}
+use Rattle.sip.specs.Calls.{noneHeld}
+use Rattle.records.specs.History.{Outcome, outcomeOf, callsLeft, callsThrough, history}
 use Rattle.records.specs.Report.{howMany, table, rate, Line, Report}
 use Rattle.records.specs.declared.Replay.{Replay}
+
+-- the counts, how many records were read, how the text ended, 0 while it goes on, and the table of calls
+pub record State : Type 0 where
+  pub counts : List ℕ
+  pub read : ℕ
+  pub end : ℕ
+  pub calls : List ℕ
+
+-- the code has the numbers by value, and is lent the table
+abbrev pub stateOf : Replay → List ℕ → State
+stateOf st calls = record { counts = st .counts; read = st .read; end = st .end; calls = calls }
+
+abbrev pub numbersIn : State → Replay
+numbersIn st = record { counts = st .counts; read = st .read; end = st .end }
 
 -- the place of a count: 20 for each group, by the reason
 abbrev pub placeOf : Outcome → ℕ
@@ -22,14 +37,14 @@ unfoldable pub countsOf : List Outcome → List ℕ
 countsOf h = table 60 0 (λ (i : ℕ). howMany (isAt i) h)
 
 -- what is carried after these records
-abbrev pub after : List Recorded → Replay
-after rs = record { counts = countsOf (history rs); read = length rs; end = 0 }
+abbrev pub after : List Recorded → State
+after rs = record { counts = countsOf (history rs); read = length rs; end = 0; calls = callsThrough noneHeld rs }
 
 -- the same, of a text that ends so
-abbrev pub ended : Replay → ℕ → Replay
-ended st e = record { counts = st .counts; read = st .read; end = e }
+abbrev pub ended : State → ℕ → State
+ended st e = record { counts = st .counts; read = st .read; end = e; calls = st .calls }
 
-unfoldable pub finished : Recording → Replay
+unfoldable pub finished : Recording → State
 finished t = ended (after (t .records)) (t .end)
 
 -- ---- one record
@@ -41,24 +56,26 @@ mostCount = 4294967295
 unfoldable pub oneMore : ℕ → ℕ
 oneMore n = cond (ltb n mostCount) (n + 1) n
 
-abbrev pub countedAt : Replay → ℕ → Replay
-countedAt st i = record { counts = set (st .counts) i (oneMore (getD (st .counts) i 0)); read = st .read + 1; end = st .end }
+abbrev pub countedAt : State → ℕ → List ℕ → State
+countedAt st i calls =
+    record { counts = set (st .counts) i (oneMore (getD (st .counts) i 0)); read = st .read + 1; end = st .end; calls = calls }
 
--- a whole record comes: "a record after 1,000,000 33"; after the end nothing is counted any more
-unfoldable pub taken : Replay → ℕ → List ℕ → Replay
+-- a whole record comes: "a record after 1,000,000 33"; after the end nothing is counted any more, and nothing remembered or forgotten
+unfoldable pub taken : State → ℕ → List ℕ → State
 taken st side m =
-    let counted = cond (ltb (st .read) mostRecords) (countedAt st (placeOf (outcomeOf m side))) (ended st 33) in
+    let counted =
+    cond (ltb (st .read) mostRecords) (countedAt st (placeOf (outcomeOf m side (st .calls))) (callsLeft m side (st .calls))) (ended st 33) in
     cond (eqb (st .end) 0) counted st
 
 -- these bytes come: a whole record at their front, or all that is there of one
-abbrev pub goesOn : Replay → List ℕ → Replay
+abbrev pub goesOn : State → List ℕ → State
 goesOn st [] = st
 goesOn st (b ∷ s) =
     let e = refusalAt (b ∷ s) in
     let r = recordAt (b ∷ s) in
     cond (eqb e 0) (taken st (r .side) (r .message)) (ended st e)
 
-unfoldable pub stepped : Replay → List ℕ → Replay
+unfoldable pub stepped : State → List ℕ → State
 stepped st s = cond (eqb (st .end) 0) (goesOn st s) st
 
 -- ---- the report of what is carried
@@ -90,5 +107,5 @@ unfoldable pub countsReport : List ℕ → ℕ → ℕ → Report
 countsReport cs n e =
     record { relay = rowLine (rowOf 0 cs); other = rowLine (rowOf 20 cs); unread = rowLine (rowOf 40 cs); records = n; refusal = e }
 
-abbrev pub reportOf : Replay → Report
+abbrev pub reportOf : State → Report
 reportOf st = countsReport (st .counts) (st .read) (st .end)

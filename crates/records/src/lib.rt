@@ -1,13 +1,15 @@
 // The records of what was screened: replays them and counts what came in each group, and with which reasons.
 ghost use mathlib.Core.Path.{_≡_};
 ghost use mathlib.Core.List.{[]};
-ghost use Prim.Native.Nat.{_<_};
+ghost use Prim.Native.Nat.{_+_, _<_};
+ghost use lib.ListN.{getD, set};
 ghost use Rattle.octets.specs.Classes.{within};
 ghost use Rattle.emit.specs.Put.{Wrote};
 ghost use Rattle.records.specs.Records.{recording};
-ghost use Rattle.records.specs.History.{reasonOf, outcomeOf};
+ghost use Rattle.sip.specs.Calls.{noneHeld};
+ghost use Rattle.records.specs.History.{outcomeOf, callsLeft};
 ghost use Rattle.records.specs.Report.{printed};
-ghost use Rattle.records.specs.Running.{placeOf, after, ended, finished, oneMore, countedAt, taken, stepped, reportOf};
+ghost use Rattle.records.specs.Running.{stateOf, numbersIn, placeOf, after, finished, oneMore, taken, stepped, countsReport};
 ghost use Rattle.records.specs.Pieces.{wanted};
 
 mod record;
@@ -21,9 +23,9 @@ pub struct Replay {
     pub end: u64,
 }
 
-// Nothing was read yet.
+// Nothing was read yet. The table of calls that goes with it is all zeros: none is held.
 pub fn start() -> Replay
-    ensures { λ r. ⌜ r ≡ after [] ⌝ }
+    ensures { λ r. ⌜ stateOf r noneHeld ≡ after [] ⌝ }
 {
     let counts = [0u32; 60];
     Replay {
@@ -35,7 +37,7 @@ pub fn start() -> Replay
 
 // The text ends so.
 fn end_with(st: Replay, end: u64) -> Replay
-    ensures { λ r. ⌜ r ≡ ended st end ⌝ }
+    ensures { λ r. ⌜ (r .counts ≡ st .counts) × (r .read ≡ st .read) × (r .end ≡ end) ⌝ }
 {
     let counts = st.counts;
     Replay {
@@ -43,19 +45,6 @@ fn end_with(st: Replay, end: u64) -> Replay
         read: st.read,
         end,
     }
-}
-
-// The screen's reason, 0 where it accepts. With room enough nothing that is judged good is refused, so that nothing needs to be written.
-fn reason_of(message: &[u8], side: u64) -> u64
-    ensures { λ r. ⌜ (r ≡ reasonOf (now (message .entry)) side) × (r < 20) ⌝ }
-{
-    if 1 < side {
-        return 1;
-    }
-    let mut slots = [0u16; 384];
-    let j = judgement::judge(message, &mut slots);
-    let r = j.refusal;
-    r.reason
 }
 
 // Reasons 1 to 5.
@@ -68,11 +57,15 @@ fn is_unread(reason: usize) -> bool
     reason <= 5
 }
 
-// Which count a message adds to.
-fn place_of(message: &[u8], side: u64) -> usize
-    ensures { λ r. ⌜ (r ≡ placeOf (outcomeOf (now (message .entry)) side)) × (r < 60) ⌝ }
+// Which count a message adds to, and the table of calls after it. With room enough nothing that is judged good is refused for room, so that
+// nothing needs to be written.
+fn place_of(message: &[u8], side: u64, calls: &mut [u8; 6208]) -> usize
+    ensures { λ r. ⌜
+        (r ≡ placeOf (outcomeOf (now (message .entry)) side (now (calls .entry)))) × (r < 60)
+        × (now (calls .exit) ≡ callsLeft (now (message .entry)) side (now (calls .entry)))
+        ⌝ }
 {
-    let reason = reason_of(message, side) as usize;
+    let reason = gateway::reason_with_room(message, side, calls) as usize;
     if is_unread(reason) {
         return 40 + reason;
     }
@@ -95,7 +88,7 @@ fn one_more(n: u32) -> u32
 // One record more, counted at a place.
 fn count(st: Replay, at: usize) -> Replay
     requires { ⌜ (at < 60) × (st .read < 1000000) ⌝ }
-    ensures { λ r. ⌜ r ≡ countedAt st at ⌝ }
+    ensures { λ r. ⌜ (r .counts ≡ set (st .counts) at (oneMore (getD (st .counts) at 0))) × (r .read ≡ st .read + 1) × (r .end ≡ st .end) ⌝ }
 {
     let mut counts = st.counts;
     counts[at] = one_more(counts[at]);
@@ -106,9 +99,10 @@ fn count(st: Replay, at: usize) -> Replay
     }
 }
 
-// Screens the message of a whole record and counts it. Refusal 33 where a million were read before it; after the end nothing changes.
-pub fn take_record(st: Replay, side: u64, message: &[u8]) -> Replay
-    ensures { λ r. ⌜ r ≡ taken st side (now (message .entry)) ⌝ }
+// Screens the message of a whole record with the table of calls that the records before it left, and counts it. Refusal 33 where a million
+// were read before it; after the end nothing changes.
+pub fn take_record(st: Replay, calls: &mut [u8; 6208], side: u64, message: &[u8]) -> Replay
+    ensures { λ r. ⌜ stateOf r (now (calls .exit)) ≡ taken (stateOf st (now (calls .entry))) side (now (message .entry)) ⌝ }
 {
     if st.end != 0 {
         return st;
@@ -116,7 +110,7 @@ pub fn take_record(st: Replay, side: u64, message: &[u8]) -> Replay
     if 1000000 <= st.read {
         return end_with(st, 33);
     }
-    let at = place_of(message, side);
+    let at = place_of(message, side, calls);
     count(st, at)
 }
 
@@ -135,8 +129,8 @@ pub fn wanted(s: &[u8]) -> usize
 
 // The text goes on with these bytes: takes the whole record at their front, or tells how the text ends. What follows that record is not
 // looked at: one record at a time is handed over. No bytes change nothing, nor do any after the end.
-pub fn step(st: Replay, s: &[u8]) -> Replay
-    ensures { λ r. ⌜ r ≡ stepped st (now (s .entry)) ⌝ }
+pub fn step(st: Replay, calls: &mut [u8; 6208], s: &[u8]) -> Replay
+    ensures { λ r. ⌜ stateOf r (now (calls .exit)) ≡ stepped (stateOf st (now (calls .entry))) (now (s .entry)) ⌝ }
 {
     if st.end != 0 {
         return st;
@@ -150,18 +144,19 @@ pub fn step(st: Replay, s: &[u8]) -> Replay
     }
     let side = record::side_of(s);
     let len = record::message_len(s);
-    take_record(st, side, octets::part(s, 5, len))
+    take_record(st, calls, side, octets::part(s, 5, len))
 }
 
-// Replays a text whole.
+// Replays a text whole, with none held before it.
 pub fn replay_text(text: &[u8]) -> Replay
-    ensures { λ r. ⌜ r ≡ finished (recording (now (text .entry))) ⌝ }
+    ensures { λ r. ⌜ r ≡ numbersIn (finished (recording (now (text .entry)))) ⌝ }
 {
+    let mut calls = [0u8; 6208];
     let mut st = start();
     let mut at = 0;
     while at < text.len() {
         let left = octets::rest(text, at);
-        st = step(st, left);
+        st = step(st, &mut calls, left);
         if st.end != 0 {
             return st;
         }
@@ -174,7 +169,7 @@ pub fn replay_text(text: &[u8]) -> Replay
 // Writes the report's text to the front of the buffer and returns its length. 4,096 bytes are enough; where there is too little room
 // nothing is written, and 0 is returned.
 pub fn put_report(out: &mut [u8], st: Replay) -> usize
-    ensures { λ r. ⌜ Wrote (now (out .entry)) 0 (printed (reportOf st)) r (now (out .exit)) ⌝ }
+    ensures { λ r. ⌜ Wrote (now (out .entry)) 0 (printed (countsReport (st .counts) (st .read) (st .end))) r (now (out .exit)) ⌝ }
 {
     let mut space = [0u8; 4096];
     let counts = st.counts;

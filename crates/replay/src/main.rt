@@ -37,6 +37,7 @@ fn replay() -> Replay
     ensures { λ r. ⌜ Replayed r ⌝ }
 {
     let mut space = [0u8; 65540];
+    let mut calls = [0u8; 6208];
     let mut st = records::start();
     let mut left: u64 = 1000001;
     while 0 < left {
@@ -44,7 +45,7 @@ fn replay() -> Replay
         if n < 1 {
             return st;
         }
-        st = records::step(st, octets::first(&space, n));
+        st = records::step(st, &mut calls, octets::first(&space, n));
         if st.end != 0 {
             return st;
         }

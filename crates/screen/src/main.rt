@@ -17,8 +17,10 @@ fn main() {
     // One byte more than a message may have, so that a longer one is seen to be longer.
     let mut message = [0u8; 8193];
     let n = io::read_full(0, &mut message);
+    // One message is screened, so that no call is remembered before it.
+    let mut calls = [0u8; 6208];
     let mut out = [0u8; 9216];
-    match gateway::screen(&message[..n], 1, &mut out) {
+    match gateway::screen(&message[..n], 1, &mut calls, &mut out) {
         Verdict::Accepted(len) => {
             print_numbers(0, 0, 0, 0);
             io::write_all(1, octets::first(&out, len));

@@ -14,7 +14,7 @@ use Rattle.sip.specs.Profile.{ignored, numberOf}
 use Rattle.sip.specs.Values.{identities, schemes, numberIn, numbersIn, allowed}
 use Rattle.sip.specs.Refusals.{Entry, kept, wellFormed, brought, firstMalformed, messageColumn, keptOf, judgement}
 use Rattle.sip.specs.Output.{output, fieldLines}
-use Rattle.sip.specs.Screen.{masks, screened}
+use Rattle.sip.specs.Screen.{decided, verdict}
 use Rattle.sip.specs.Readings.{Asserted, asserted, sipOr, preferred, callerIn, numberOr, callingNumber}
 use Rattle.sip.specs.Grammar.{UriParts, isTelUri, personOf}
 use Rattle.sip.specs.Asserted.{Asserting, nothing-asserted, other-field, asserting-field, Calling, the-only-one}
@@ -63,8 +63,8 @@ lines-without body (e ∷ es) = go (eqb (e .number) 15) refl (lines-without body
     go false p h = rw (fieldLines, p, h)
 
 pub all-go : AllGo
-unfolding screened masks output
-all-go m r buffer a w = rw (a, w, lines-without (length (r .body)) (r .fields))
+unfolding verdict decided output
+all-go m r table a w = rw (a, decided, w, lines-without (length (r .body)) (r .fields))
 
 -- ---- which identity calls
 

@@ -1,4 +1,4 @@
--- CR 5: of From and P-Asserted-Identity no reason and no masked line sees more than that they are not malformed, and From's tag.
+-- CR 5: of From and P-Asserted-Identity no reason, no masked line and no pair sees more than that they are not malformed, and From's tag.
 use mathlib.Core.Path.{_≡_, refl, sym, ap, _∙_}
 use mathlib.Core.Bool.{Bool, true, false, cond}
 use mathlib.Core.List.{List, [], _∷_, _++_, append-nil}
@@ -17,7 +17,7 @@ use Rattle.sip.specs.Refusals.{wellFormed, brought, firstMalformed, reas
 use Rattle.sip.specs.Refusals.{firstLacking, reason14, firstOf, reasons, passed, accepted, read, lines, judgedRequest, messageColumn}
 use Rattle.sip.specs.Refusals.{keptOf, judgement}
 use Rattle.sip.specs.Output.{sentValue, fieldLines, output}
-use Rattle.sip.specs.Screen.{masks, delivered, concluded, screened}
+use Rattle.sip.specs.Screen.{valueOr, callOf, hides, closes, masks, overfills, callsAfter, decided, verdictOf, verdict, screened}
 use Rattle.sip.specs.Asserted.{IdentitiesAllowed}
 use Rattle.sip.specs.Callers.{OtherCaller, no-fields, equal, other-from, other-identity, TwoCallers}
 use Rattle.sip.specs.Grammar.{HoldsAny, here, later}
@@ -151,6 +151,19 @@ tags-like (same-entry l) = rw (tags-like l)
 tags-like (two-froms a b t l) = tags-like l
 tags-like (two-identities p l) = tags-like l
 
+-- From's tag, by which the call is remembered
+tag-like : {P : Type 0} {es ds : List Entry} → Like P es ds → tagOf (valueOr (valueOf 3 ds)) ≡ tagOf (valueOr (valueOf 3 es))
+unfolding valueOf
+tag-like no-entries = refl
+tag-like (same-entry {e = e} {es = es} {ds = ds} l) = go (eqb (e .number) 3) (tag-like l)
+  where
+    go : (t : Bool) → tagOf (valueOr (valueOf 3 ds)) ≡ tagOf (valueOr (valueOf 3 es))
+        → tagOf (valueOr (cond t (some (e .value)) (valueOf 3 ds))) ≡ tagOf (valueOr (cond t (some (e .value)) (valueOf 3 es)))
+    go true h = refl
+    go false h = h
+tag-like (two-froms a b t l) = t
+tag-like (two-identities p l) = tag-like l
+
 lines-like : {P : Type 0} (body : ℕ) {es ds : List Entry} → Like P es ds → fieldLines true body ds ≡ fieldLines true body es
 unfolding fieldLines sentValue
 lines-like body no-entries = refl
@@ -161,9 +174,9 @@ lines-like body (two-identities p l) = lines-like body l
 -- ---- the whole judgement
 
 -- on side 1 the withheld are masked
-masked : (es : List Entry) (k : Start) (rest : List ℕ) → withheld es ≡ true → masks 1 (passed k es rest) ≡ true
+masked : (es : List Entry) (k : Start) (rest table : List ℕ) → withheld es ≡ true → masks 1 table (passed k es rest) ≡ true
 unfolding masks
-masked es k rest w = cc
+masked es k rest table w = cc
 
 module _ {P : Type 0} {es ds : List Entry} (l : Like P es ds)
     (formed : (method : List ℕ) → firstMalformed method [] ds ≡ firstMalformed method [] es) where
@@ -223,22 +236,36 @@ module _ {P : Type 0} {es ds : List Entry} (l : Like P es ds)
   unfolding output
   output-like k rest = rw (body-like rest, lines-like _ l)
 
-  judged-like : (k : RequestLine) (rest buffer : List ℕ) → (judgedRequest k es rest ≡ accepted (passed (request k) es rest) → withheld es ≡ true)
-      → concluded 1 buffer (judgedRequest k ds rest) ≡ concluded 1 buffer (judgedRequest k es rest)
-  unfolding judgedRequest delivered
-  judged-like k rest buffer w = go (columnOf (k .method) (toTagged es)) refl
+  call-like : callOf ds ≡ callOf es
+  unfolding callOf
+  call-like = rw (value-like 5 refl refl l, tag-like l)
+
+  hides-like : (k : Start) (rest : List ℕ) → hides 1 (passed k ds rest) ≡ hides 1 (passed k es rest)
+  unfolding hides
+  hides-like k rest = rw withheld-like
+
+  -- what goes out, and the calls that are remembered
+  decided-like : (k : Start) (rest table : List ℕ) → withheld es ≡ true → decided 1 table (passed k ds rest) ≡ decided 1 table (passed k es rest)
+  unfolding decided overfills closes callsAfter
+  decided-like k rest table w =
+      let x = masked es k rest table w in
+      let y = masked ds k rest table (withheld-like ∙ w) in
+      rw (hides-like k rest, call-like, x, y, output-like k rest)
+
+  judged-like : (k : RequestLine) (rest table : List ℕ) → (judgedRequest k es rest ≡ accepted (passed (request k) es rest) → withheld es ≡ true)
+      → verdictOf 1 table (judgedRequest k ds rest) ≡ verdictOf 1 table (judgedRequest k es rest)
+  unfolding judgedRequest
+  judged-like k rest table w = go (columnOf (k .method) (toTagged es)) refl
     where
       next : (c : Column) → columnOf (k .method) (toTagged es) ≡ some c → (o : Option Answer) → firstOf (reasons c k es rest) ≡ o
-          → concluded 1 buffer (judgedRequest k ds rest) ≡ concluded 1 buffer (judgedRequest k es rest)
+          → verdictOf 1 table (judgedRequest k ds rest) ≡ verdictOf 1 table (judgedRequest k es rest)
       next c p (some a) q = rw (judgedRequest, tagged-like, p, reasons-like c k rest, q)
       next c p none q =
           let a : withheld es ≡ true = w (rw (judgedRequest, p, q)) in
-          let x = masked es (request k) rest a in
-          let y = masked ds (request k) rest (withheld-like ∙ a) in
-          rw (judgedRequest, tagged-like, p, reasons-like c k rest, q, x, y, output-like (request k) rest)
+          rw (judgedRequest, tagged-like, p, reasons-like c k rest, q) (decided-like (request k) rest table a)
 
       go : (o : Option Column) → columnOf (k .method) (toTagged es) ≡ o
-          → concluded 1 buffer (judgedRequest k ds rest) ≡ concluded 1 buffer (judgedRequest k es rest)
+          → verdictOf 1 table (judgedRequest k ds rest) ≡ verdictOf 1 table (judgedRequest k es rest)
       go none p = rw (judgedRequest, tagged-like, p)
       go (some c) p = next c p (firstOf (reasons c k es rest)) refl
 
@@ -281,9 +308,10 @@ formed-like method c i {fs} {gs} o =
     malformed-allowed method [] [] (kept-like c o) refl refl (allowed-formed method c i fs (p .0)) (allowed-formed method c i gs (p .1)))
     (λ x. malformed-same method [] (kept-like c x))
 
-pub digits-hidden : DigitsHidden
-unfolding screened judgement
-digits-hidden m m′ buffer c = go (leb (length (c .fields)) 96) refl
+-- what is decided before anything is written
+pub same-verdict : (m m′ table : List ℕ) → TwoCallers m m′ → verdict m′ 1 table ≡ verdict m 1 table
+unfolding verdict judgement
+same-verdict m m′ table c = go (leb (length (c .fields)) 96) refl
   where
     l : Start
     l = request (c .line)
@@ -295,8 +323,8 @@ digits-hidden m m′ buffer c = go (leb (length (c .fields)) 96) refl
     es = keptOf l (c .fields)
 
     -- where the first is accepted it has one Privacy, and that withholds
-    hides : leb (length (c .fields)) 96 ≡ true → judgedRequest (c .line) es (c .rest) ≡ accepted (passed l es (c .rest)) → withheld es ≡ true
-    hides p a =
+    withholds : leb (length (c .fields)) 96 ≡ true → judgedRequest (c .line) es (c .rest) ≡ accepted (passed l es (c .rest)) → withheld es ≡ true
+    withholds p a =
         let h : Header = record { fields = c .fields; rest = c .rest } in
         let e : lines m ≡ read l h = rw (r .first-reads, p) in
         withheld-read m l h (passed l es (c .rest)) e (rw e a) .1 (c .is-withheld)
@@ -310,11 +338,15 @@ digits-hidden m m′ buffer c = go (leb (length (c .fields)) 96) refl
     formed : (method : List ℕ) → firstMalformed method [] ds ≡ firstMalformed method [] es
     formed method = formed-like method column (invite-keeps (c .line) (c .an-invite)) (c .other-caller)
 
-    go : (t : Bool) → leb (length (c .fields)) 96 ≡ t → screened m′ 1 buffer ≡ screened m 1 buffer
+    go : (t : Bool) → leb (length (c .fields)) 96 ≡ t → verdict m′ 1 table ≡ verdict m 1 table
     go true p =
         rw (r .first-reads, r .second-reads, r .as-many, p)
-        (judged-like (kept-like column (c .other-caller)) formed (c .line) (c .rest) buffer (hides p))
+        (judged-like (kept-like column (c .other-caller)) formed (c .line) (c .rest) table (withholds p))
     go false p = rw (r .first-reads, r .second-reads, r .as-many, p)
+
+pub digits-hidden : DigitsHidden
+unfolding screened
+digits-hidden m m′ table buffer c = rw (same-verdict m m′ table c)
 
 -- ---- either way, and no value and no pair is left out
 

@@ -13,7 +13,7 @@ use Rattle.sip.specs.Profile.{rows, find, mark, numberOf, ignored}
 use Rattle.sip.specs.declared.Column.{Column}
 use Rattle.sip.specs.declared.Column.the-variants.{Invite, Reinvite, Ack, Bye, Cancel, Options, InviteSuccess, CancelResponse, OtherResponse}
 use Rattle.sip.specs.Refusals.{unread, read, headerLines, lines, kept, valueOf, firstCSeqMethod, responseColumnOf, messageColumn, keptOf, judgement}
-use Rattle.sip.specs.Screen.{screened}
+use Rattle.sip.specs.Screen.{verdict, screened}
 use Rattle.sip.specs.Change.{StartShaped, AllShaped, none-left, one-more, headerBytes, Varied, no-fields, unchanged, added, renamed, Changed}
 use Rattle.sip.specs.Promises.{Demand3, SameColumn, Everything, NothingElse}
 use Rattle.sip.proofs.Headers.{header-bytes, header-here}
@@ -135,8 +135,8 @@ alike m m′ c =
     rw (r .original-reads, r .changed-reads, k)
 
 pub demand3 : Demand3
-unfolding screened
-demand3 m m′ side buffer c = rw (alike m m′ c)
+unfolding screened verdict
+demand3 m m′ side table buffer c = rw (alike m m′ c)
 
 -- ---- nothing is left out
 

@@ -32,5 +32,11 @@ pub mod Allowed
 pub mod Asserted
 pub mod Callers
 pub mod Pairs
+pub mod Cases
+pub mod Complete
 pub mod Reasons
 pub mod Named
+pub mod Calls
+pub mod Screening
+pub mod History
+pub mod CallCases

@@ -1,6 +1,6 @@
 -- Who is masked: a column that is not INVITE's ignores Privacy, and both of INVITE's ignore the same, row by row of the table.
 use mathlib.Core.Path.{_≡_, refl, sym}
-use mathlib.Core.Bool.{Bool, true, false, cond}
+use mathlib.Core.Bool.{Bool, true, false, cond, _&&_, and-false, or-true}
 use mathlib.Core.List.{List, [], _∷_, map}
 use mathlib.Core.Option.{Option, none, some}
 use Prim.Native.Nat.{ℕ}
@@ -9,19 +9,52 @@ use Rattle.octets.specs.Classes.{text}
 use Rattle.octets.specs.Scans.{same}
 use Rattle.sip.specs.declared.Column.{Column}
 use Rattle.sip.specs.declared.Column.the-variants.{Invite, Reinvite, Ack, Bye, Cancel, Options}
-use Rattle.sip.specs.Lines.{RequestLine, request, Header}
+use Rattle.sip.specs.Lines.{RequestLine, Start, request, response, Header}
 use Rattle.sip.specs.Profile.{Mark, I, Row, isIgnored, markIn, columnOf, ignored, mark, find, rows}
 use Rattle.sip.specs.Refusals.{lines, read, Entry, valueOf, withheld, keptOf, toTagged, Passed, passed, accepted, judgement, judgedRequest}
-use Rattle.sip.specs.Screen.{masks, screened}
-use Rattle.sip.specs.Promises.{OnlyInvites, OnlyWithheldMasked, SameIgnored}
-use Rattle.sip.proofs.Tests.{never}
+use Rattle.sip.specs.Screen.{callOf, isRequest, isMethod, hides, closes, masks, overfills, callsAfter, sends, decided, verdict, screened}
+use Rattle.sip.specs.Output.{output}
+use Rattle.sip.specs.Calls.{isHeld, removed}
+use Rattle.sip.specs.Promises.{OnlyInvites, OnlyWithheldMasked, RememberedMasked, SameIgnored}
+use Rattle.sip.proofs.Tests.{never, cond-same}
 use Rattle.sip.proofs.Texts.{same-eq}
 use Rattle.sip.proofs.Accepted.{not-both, judged-inv}
 use Rattle.sip.proofs.Firsts.{ignored-none}
 
+-- ---- where the caller is not withheld, and it is a response or its pair is not remembered
+
+module _ (r : Passed) (w : withheld (r .fields) ≡ false) (table : List ℕ)
+    (h : (isRequest (r .line) && isHeld (callOf (r .fields)) table) ≡ false) (side : ℕ) where
+  -- no pair is entered
+  pub not-hidden : hides side r ≡ false
+  unfolding hides
+  not-hidden = rw (w, and-false (isMethod (text "INVITE") (r .line)), and-false (eqb side 1))
+
+  -- and none removed
+  stays : callsAfter side table r ≡ table
+  unfolding callsAfter closes removed
+  stays = rw not-hidden (go (r .line) h)
+    where
+      go : (l : Start) → (isRequest l && isHeld (callOf (r .fields)) table) ≡ false
+          → cond (eqb side 1 && isMethod (text "BYE") l) (removed (callOf (r .fields)) table) table ≡ table
+      go (request l) k = rw k (cond-same (eqb side 1 && same (text "BYE") (l .method)) table)
+      go (response l) k = rw (and-false (eqb side 1))
+
+  pub goes-unmasked : decided side table r ≡ sends (r .line) (output false r) table
+  unfolding decided overfills masks
+  goes-unmasked = rw (not-hidden, stays, w, h, and-false (eqb side 1))
+
 pub only-withheld-masked : OnlyWithheldMasked
-unfolding screened masks
-only-withheld-masked m r a w buffer = rw (a, w) refl
+unfolding screened verdict
+only-withheld-masked m r a w table buffer h =
+    let k : (isRequest (r .line) && isHeld (callOf (r .fields)) table) ≡ false = rw (h, and-false (isRequest (r .line))) in
+    rw (a, goes-unmasked r w table k 1, goes-unmasked r w table k 0)
+
+-- ---- where the pair is remembered
+
+pub remembered-masked : RememberedMasked
+unfolding verdict decided overfills masks
+remembered-masked m l r table a k h = rw (a, h, and-false (hides 1 r), k, or-true (withheld (r .fields)))
 
 -- ---- only INVITE
 

@@ -5,23 +5,22 @@ use mathlib.Core.List.{List, [], _∷_, _++_, append-nil}
 use mathlib.Core.Option.{Option}
 use Prim.Native.Nat.{ℕ}
 use lib.Dec.{leb, eqb}
-use lib.ListN.{length}
 use borrow.Author.Tests.{eqb-true, eqb-false}
 use Rattle.octets.specs.Classes.{among}
 use Rattle.sip.specs.declared.Column.{Column}
 use Rattle.sip.specs.Lines.{Start, Field, Header, canonical}
 use Rattle.sip.specs.Profile.{rows, find, once, ignored, numberOf}
 use Rattle.sip.specs.Values.{allowed}
-use Rattle.sip.specs.Refusals.{Answer, refusal, silent, replied, read, lines, Entry, kept, firstRepeat, wellFormed, brought, firstMalformed}
-use Rattle.sip.specs.Refusals.{Lines, unread, Passed, Judgement, refused, accepted, judged, messageColumn, keptOf, judgement}
-use Rattle.sip.specs.Output.{output}
-use Rattle.sip.specs.Screen.{Screened, refusing, sending, masks, delivered, screened}
+use Rattle.sip.specs.Refusals.{Answer, refusal, read, lines, Entry, kept, firstRepeat, wellFormed, brought, firstMalformed}
+use Rattle.sip.specs.Refusals.{Lines, unread, messageColumn, keptOf, judgement}
+use Rattle.sip.specs.Screen.{verdict, Screened, screened}
 use Rattle.sip.specs.Promises.{only, AllowedPass, IgnoredPass, FieldThatBringsIt, NeverRepeated}
 use Rattle.sip.proofs.Tests.{never}
 use Rattle.sip.proofs.Accepted.{methodOf, first-formed}
 use Rattle.sip.proofs.Allowed.{only-one, only-none, none-brought, allowed-formed, formed-allowed}
 use Rattle.sip.proofs.Asserted.{only-formed}
 use Rattle.sip.proofs.Reasons.{OfEach, judged-refused}
+use Rattle.sip.proofs.Cases.{replied-reason, screened-cases}
 
 -- ---- of the fields
 
@@ -89,30 +88,19 @@ of-each method es =
 
 -- ---- the answer of a message
 
-module _ (fine : Type 0) (side : ℕ) (buffer : List ℕ) where
-  abbrev Says : Screened → Type 0
-  Says s = Names fine (s .answer)
-
-  unread-names : (n : ℕ) → Says (refusing (refusal n 0 0 0) buffer)
-  unread-names n = record { nine = λ y z. never (cc); ten = λ f y z. never (cc) }
-
-  delivered-names : (r : Passed) (o : List ℕ) → Says (delivered r o buffer)
-  unfolding delivered replied
-  delivered-names r o = go (leb (length o) (length buffer)) (silent (r .line))
-    where
-      full : Answer
-      full = refusal 16 500 (length o) 0
-
-      go : (t s : Bool) → Says (cond t (sending o buffer) (refusing (cond s (refusal (full .reason) 0 (full .detail) (full .missing)) full) buffer))
-      go true s = named fine _ 0 refl refl refl
-      go false true = named fine _ 16 refl refl refl
-      go false false = named fine _ 16 refl refl refl
-
-module _ (m : List ℕ) (side : ℕ) (buffer : List ℕ) where
+module _ (m : List ℕ) (side : ℕ) (table buffer : List ℕ) where
   read-names : (l : Start) (h : Header) → lines m ≡ read l h
-      → Names (Fine (methodOf l (keptOf l (h .fields))) (keptOf l (h .fields))) (screened m side buffer .answer)
-  unfolding screened judgement
-  read-names l h e = go (leb side 1) (judged l es (h .rest)) refl refl
+      → Names (Fine (methodOf l (keptOf l (h .fields))) (keptOf l (h .fields))) (screened m side table buffer .answer)
+  unfolding judgement
+  read-names l h e =
+      screened-cases m side table buffer (λ (s : Screened). Names fine (s .answer))
+      (record {
+        other-side = named fine _ 1 refl refl refl;
+        is-refused = λ a q. judged-refused (Names fine) l es (of-each (methodOf l es) es) (h .rest) a (rw e at q);
+        is-full = λ r q f. named fine _ 18 refl refl refl;
+        no-room = λ r n q. named fine _ 16 (replied-reason (r .line) (refusal 16 500 n 0)) refl refl;
+        is-sent = λ r q f. named fine _ 0 refl refl refl;
+      })
     where
       es : List Entry
       es = keptOf l (h .fields)
@@ -120,13 +108,8 @@ module _ (m : List ℕ) (side : ℕ) (buffer : List ℕ) where
       fine : Type 0
       fine = Fine (methodOf l es) es
 
-      go : (t : Bool) (j : Judgement) → leb side 1 ≡ t → judged l es (h .rest) ≡ j → Names fine (screened m side buffer .answer)
-      go false j p q = rw p (unread-names fine side buffer 1)
-      go true (refused a) p q = rw (p, e, q) (judged-refused (Names fine) l es (of-each (methodOf l es) es) (h .rest) a q)
-      go true (accepted r) p q = rw (p, e, q) (delivered-names fine side buffer r (output (masks side r) r))
-
-  no-repeat : (x : Lines) → lines m ≡ x → screened m side buffer .answer .reason ≡ 9 → screened m side buffer .answer .detail ≡ 15 → ⊥
-  unfolding screened judgement
+  no-repeat : (x : Lines) → lines m ≡ x → screened m side table buffer .answer .reason ≡ 9 → screened m side table buffer .answer .detail ≡ 15 → ⊥
+  unfolding screened verdict judgement
   no-repeat (read l h) e y z = read-names l h e .nine y z
   no-repeat (unread n) e y z = go (leb side 1) refl
     where
@@ -135,7 +118,7 @@ module _ (m : List ℕ) (side : ℕ) (buffer : List ℕ) where
       go true p = let x : refusal n 0 0 0 .detail ≡ 15 = rw (p, e) at z in never (cc)
 
 pub never-repeated : NeverRepeated
-never-repeated m side buffer = no-repeat m side buffer (lines m) refl
+never-repeated m side table buffer = no-repeat m side table buffer (lines m) refl
 
 -- where P-Asserted-Identity is ignored none is kept
 none-kept : (c : Option Column) → ignored c 15 ≡ true → (fs : List Field) → only 15 (kept c fs) ≡ []
@@ -152,7 +135,7 @@ none-kept c i (f ∷ fs) = go (ignored c (numberOf (f .name))) (eqb (numberOf (f
 pub allowed-pass : AllowedPass
 unfolding firstMalformed
 allowed-pass m l h e a =
-    record { never-10-15 = λ side buffer y z. read-names m side buffer l h e .ten (fine (ignored c 15) refl) y z }
+    record { never-10-15 = λ side table buffer y z. read-names m side table buffer l h e .ten (fine (ignored c 15) refl) y z }
   where
     c : Option Column
     c = messageColumn l (h .fields)
@@ -168,7 +151,7 @@ pub ignored-pass : IgnoredPass
 unfolding firstMalformed
 ignored-pass m l h e i =
     record {
-      never-10-15 = λ side buffer y z. read-names m side buffer l h e .ten (rw (none-kept (messageColumn l (h .fields)) i (h .fields))) y z;
+      never-10-15 = λ side table buffer y z. read-names m side table buffer l h e .ten (rw (none-kept (messageColumn l (h .fields)) i (h .fields))) y z;
     }
 
 -- the first P-Asserted-Identity up to which they are not allowed

@@ -17,7 +17,9 @@ use Rattle.sip.specs.Refusals.{kept, firstMalformed, messageColumn}
 use Rattle.sip.specs.Promises.{only}
 use Rattle.sip.specs.Grammar.{HoldsAny, here, later}
 use Rattle.sip.specs.GrammarPromises.{Withholding}
-use Rattle.sip.specs.Screen.{Screened, screened}
+use Rattle.sip.specs.Screen.{screened}
+use Rattle.sip.specs.Calls.{noneHeld}
+use Rattle.sip.specs.Starred.{Given, given}
 use Rattle.sip.specs.Hidden.{Pair, alike, apart, handedBack, PairHolds, PairsHold, no-pair, pair}
 use Rattle.sip.specs.Asserted.{IdentitiesAllowed}
 use Rattle.sip.specs.Callers.{withValue, OtherCaller, no-fields, equal, other-identity, TwoCallers}
@@ -190,10 +192,11 @@ found c s a b = record { callers = c; same = s; first = a; second = b }
 
 abbrev Computes : Pair → Type 0
 Computes (alike m m′ buffer gives) =
-    found (areTwoCallers m m′) (same m m′) (screened m 1 buffer) (screened m′ 1 buffer) ≡ found true false gives gives
+    found (areTwoCallers m m′) (same m m′) (given (screened m 1 noneHeld buffer)) (given (screened m′ 1 noneHeld buffer)) ≡ found true false gives gives
 -- of pairs that are apart it is not asked whether they are two callers
 Computes (apart m m′ side buffer gives gives′) =
-    found true (same (gives .buffer) (gives′ .buffer)) (screened m side buffer) (screened m′ side buffer) ≡ found true false gives gives′
+    found true (same (gives .buffer) (gives′ .buffer)) (given (screened m side noneHeld buffer)) (given (screened m′ side noneHeld buffer))
+    ≡ found true false gives gives′
 Computes (handedBack hands m m′ part part′) =
     found (areTwoCallers m m′) (same part part′) (hands m) (hands m′) ≡ found true false part part′
 
@@ -204,16 +207,16 @@ pub data AllCompute : List Pair → Type 0 where
 holds : (p : Pair) → Computes p → PairHolds p
 holds (alike m m′ buffer gives) e =
     record {
-      two-callers = callers-found m m′ (ap (λ (c : Found Screened). c .callers) e);
-      bytes-differ = differ m m′ (ap (λ (c : Found Screened). c .same) e);
-      first-gives = ap (λ (c : Found Screened). c .first) e;
-      second-gives = ap (λ (c : Found Screened). c .second) e;
+      two-callers = callers-found m m′ (ap (λ (c : Found Given). c .callers) e);
+      bytes-differ = differ m m′ (ap (λ (c : Found Given). c .same) e);
+      first-gives = ap (λ (c : Found Given). c .first) e;
+      second-gives = ap (λ (c : Found Given). c .second) e;
     }
 holds (apart m m′ side buffer gives gives′) e =
     record {
-      first-gives = ap (λ (c : Found Screened). c .first) e;
-      second-gives = ap (λ (c : Found Screened). c .second) e;
-      buffers-differ = differ (gives .buffer) (gives′ .buffer) (ap (λ (c : Found Screened). c .same) e);
+      first-gives = ap (λ (c : Found Given). c .first) e;
+      second-gives = ap (λ (c : Found Given). c .second) e;
+      buffers-differ = differ (gives .buffer) (gives′ .buffer) (ap (λ (c : Found Given). c .same) e);
     }
 holds (handedBack hands m m′ part part′) e =
     record {

@@ -1,21 +1,24 @@
--- What holds of each reason from 6 on holds of every refusal of a message that is read: it is the first that applies.
+-- What holds of each reason from 6 on holds of every refusal of a message that is read: it is the first that applies. So no message is refused
+-- by a reason above 17, or by 16.
 use mathlib.Core.Path.{_≡_, refl}
 use mathlib.Core.Bool.{Bool, true, false, not, cond, _&&_}
 use mathlib.Core.List.{List, [], _∷_}
 use mathlib.Core.Option.{Option, none, some}
 use Prim.Native.Nat.{ℕ, _≤_}
 use native.Mathlib.Omega.{arith}
-use lib.Dec.{eqb}
+use lib.Dec.{leb, eqb}
+use borrow.Author.Tests.{eqb-false}
 use lib.ListN.{length, drop}
 use Rattle.octets.specs.Classes.{within}
 use Rattle.sip.specs.declared.Column.{Column}
-use Rattle.sip.specs.Lines.{RequestLine, StatusLine, Start, request, response}
+use Rattle.sip.specs.Lines.{RequestLine, StatusLine, Start, request, response, start, startSize, Header, header}
 use Rattle.sip.specs.Profile.{columnOf, numbers}
 use Rattle.sip.specs.Values.{isEmpty, uri, person, isCalled}
 use Rattle.sip.specs.Refusals.{Answer, refusal, silent, replied, Entry, bodyOf, toTagged, when, otherScheme, isUri, firstRepeat, firstMalformed}
 use Rattle.sip.specs.Refusals.{exceeds, missingOf, headOr, noHops, firstLacking, isInitial, firstOf, reasons, responseReasons, passed}
 use Rattle.sip.specs.Refusals.{reason7, reason8, reason9, reason10, reason11, reason12, reason13, reason14, reason15, refused, accepted}
-use Rattle.sip.specs.Refusals.{judgedRequest, firstCSeqMethod, statusOf, responseColumnOf, judgedResponse, judged}
+use Rattle.sip.specs.Refusals.{judgedRequest, firstCSeqMethod, statusOf, responseColumnOf, judgedResponse, judged, Lines, unread, read, headerLines, lines, keptOf}
+use Rattle.sip.specs.Refusals.{judgement}
 use Rattle.sip.proofs.Tests.{never}
 use Rattle.sip.proofs.Accepted.{methodOf}
 
@@ -133,3 +136,53 @@ module _ (P : Answer → Type 0) where
   pub judged-refused : (l : Start) (es : List Entry) → OfEach P (methodOf l es) es → (rest : List ℕ) (a : Answer) → judged l es rest ≡ refused a → P a
   judged-refused (request l) es h rest a e = request-refused l es h rest a e
   judged-refused (response l) es h rest a e = response-refused l es h rest a e
+
+-- ---- which reasons a message is refused by
+
+pub record IsJudged (n : ℕ) : Type 0 where
+  pub few : n ≤ 17
+  pub roomy : n ≡ 16 → ⊥
+
+judged-each : (method : List ℕ) (es : List Entry) → OfEach (λ (a : Answer). IsJudged (a .reason)) method es
+judged-each method es =
+    record {
+      nine = record { few = omega arith; roomy = λ z. omega (arith, z) };
+      ten = record { few = omega arith; roomy = λ z. omega (arith, z) };
+      other = λ k reply detail missing l p q r. record { few = l; roomy = eqb-false k 16 r };
+      silenced = λ a h. h;
+    }
+
+-- reasons 2 to 5
+pub lines-reason : (m : List ℕ) (n : ℕ) → lines m ≡ unread n → (2 ≤ n) × (n ≤ 5)
+unfolding lines
+lines-reason m n e = go (leb (length m) 8192) (start m) refl refl
+  where
+    number : (k : ℕ) → 2 ≤ k → k ≤ 5 → unread k ≡ unread n → (2 ≤ n) × (n ≤ 5)
+    number k l h q = let z : k ≡ n = cc in (omega arith, omega arith)
+
+    fields : (l : Start) (o : Option Header) → headerLines l o ≡ unread n → (2 ≤ n) × (n ≤ 5)
+    fields l none q = number 4 (omega arith) (omega arith) q
+    fields l (some h) q = few (leb (length (h .fields)) 96) q
+      where
+        few : (t : Bool) → cond t (read l h) (unread 5) ≡ unread n → (2 ≤ n) × (n ≤ 5)
+        few true x = never (cc)
+        few false x = number 5 (omega arith) (omega arith) x
+
+    go : (t : Bool) (o : Option Start) → leb (length m) 8192 ≡ t → start m ≡ o → (2 ≤ n) × (n ≤ 5)
+    go false o p q = number 2 (omega arith) (omega arith) (rw p at e)
+    go true none p q = number 3 (omega arith) (omega arith) (rw (p, q) at e)
+    go true (some l) p q = fields l (header 0 (drop (startSize l) m)) (rw (p, q) at e)
+
+pub refused-reason : (m : List ℕ) (a : Answer) → judgement m ≡ refused a → IsJudged (a .reason)
+unfolding judgement
+refused-reason m a e = go (lines m) refl
+  where
+    go : (x : Lines) → lines m ≡ x → IsJudged (a .reason)
+    go (unread n) q =
+        let z : refused (refusal n 0 0 0) ≡ refused a = rw q at e in
+        let w : refusal n 0 0 0 ≡ a = cc in
+        let (lo, hi) = lines-reason m n q in
+        rw (← w) (record { few = omega arith; roomy = λ z. omega (arith, z) })
+    go (read l h) q =
+        let es : List Entry = keptOf l (h .fields) in
+        judged-refused (λ (x : Answer). IsJudged (x .reason)) l es (judged-each (methodOf l es) es) (h .rest) a (rw q at e)

@@ -12,17 +12,19 @@ use Rattle.sip.specs.declared.Column.{Column}
 use Rattle.sip.specs.declared.Column.the-variants.{InviteSuccess, CancelResponse, OtherResponse}
 use Rattle.sip.specs.Lines.{StatusLine, Start, response, start, startSize, Header, header}
 use Rattle.sip.specs.Profile.{rows, find, mark, ignored, responseColumn}
-use Rattle.sip.specs.Refusals.{Answer, refusal, silent, replied, Lines, unread, lines, read, Entry, withheld, firstOf}
+use Rattle.sip.specs.Refusals.{Answer, refusal, replied, Lines, unread, lines, read, Entry, withheld, firstOf}
 use Rattle.sip.specs.Refusals.{Passed, passed, Judgement, refused, accepted, firstCSeqMethod, statusOf, responseReasons}
 use Rattle.sip.specs.Refusals.{responseColumnOf, judgedResponse, messageColumn, keptOf, judgement}
 use Rattle.sip.specs.Values.{isGlobal}
-use Rattle.sip.specs.Screen.{delivered, screened}
+use Rattle.sip.specs.Output.{output}
+use Rattle.sip.specs.Screen.{overfills, sends, decided, verdict, Screened, screened}
 use Rattle.sip.specs.Readings.{callerIn, callingNumber}
 use Rattle.sip.specs.Promises.{NoReply, NothingAnonymous, ResponseCalling}
 use Rattle.sip.proofs.Tests.{never}
 use Rattle.sip.proofs.Accepted.{not-both, judged-inv}
 use Rattle.sip.proofs.Firsts.{ignored-none, none-asserted, column-once}
-use Rattle.sip.proofs.Masked.{only-withheld-masked}
+use Rattle.sip.proofs.Masked.{not-hidden, goes-unmasked}
+use Rattle.sip.proofs.Cases.{written-cases, screened-cases}
 
 -- ---- no reply
 
@@ -50,14 +52,6 @@ refused-silent l es rest a e = go (within 100 699 (statusOf l)) (responseColumnO
         let w : a ≡ refusal 6 0 0 0 = cc in
         rw w
     go true (some c) t p = next c t p (reasons c) refl
-
-delivered-silent : (r : Passed) (o buffer : List ℕ) → silent (r .line) ≡ true → delivered r o buffer .answer .reply ≡ 0
-unfolding delivered replied
-delivered-silent r o buffer s = go (leb (length o) (length buffer)) refl
-  where
-    go : (t : Bool) → leb (length o) (length buffer) ≡ t → delivered r o buffer .answer .reply ≡ 0
-    go true p = rw p
-    go false p = rw (p, s)
 
 -- a response has one of three columns
 of-responses :
@@ -94,15 +88,6 @@ module _ (m : List ℕ) (l : StatusLine) (h : Header) (e : lines m ≡ read (res
   made : (r : Passed) → judgement m ≡ accepted r → r ≡ passed (response l) es (h .rest)
   made r q = judged-inv (response l) es (h .rest) r (sym judged-so ∙ q) .made
 
-  answered : (side : ℕ) (buffer : List ℕ) → screened m side buffer .answer .reply ≡ 0
-  unfolding screened
-  answered side buffer = go (leb side 1) (judgement m) refl refl
-    where
-      go : (t : Bool) (j : Judgement) → leb side 1 ≡ t → judgement m ≡ j → screened m side buffer .answer .reply ≡ 0
-      go false j p q = rw p
-      go true (refused a) p q = rw (p, q) (refused-silent l es (h .rest) a (sym judged-so ∙ q))
-      go true (accepted r) p q = rw (p, q) (delivered-silent r _ buffer (rw (made r q)))
-
   -- ---- nothing anonymous
 
   -- what all columns of responses ignore is not among the kept fields
@@ -124,17 +109,42 @@ module _ (m : List ℕ) (l : StatusLine) (h : Header) (e : lines m ≡ read (res
         go none false p u = not-both (rw u at taken)
         go none true p u = not-both (rw (u, once, p) at taken)
 
-  not-withheld : (r : Passed) → judgement m ≡ accepted r → withheld (r .fields) ≡ false
+  pub not-withheld : (r : Passed) → judgement m ≡ accepted r → withheld (r .fields) ≡ false
   unfolding withheld ignored mark find rows
   not-withheld r q = rw (made r q, ignored-none column 16 (all-ignore 16 refl refl refl r q) (h .fields)) refl
 
-  same-sides : (buffer : List ℕ) → screened m 1 buffer ≡ screened m 0 buffer
-  unfolding screened
-  same-sides buffer = go (judgement m) refl
-    where
-      go : (j : Judgement) → judgement m ≡ j → screened m 1 buffer ≡ screened m 0 buffer
-      go (refused a) q = rw q refl
-      go (accepted r) q = only-withheld-masked m r q (not-withheld r q) buffer
+  -- on either side, whatever is remembered
+  as-it-is : (r : Passed) → judgement m ≡ accepted r → (side : ℕ) (table : List ℕ)
+      → decided side table r ≡ sends (r .line) (output false r) table
+  as-it-is r q side table = goes-unmasked r (not-withheld r q) table (rw (made r q)) side
+
+  not-full : (r : Passed) → judgement m ≡ accepted r → (side : ℕ) (table : List ℕ) → overfills side table r ≡ false
+  unfolding overfills
+  not-full r q side table = rw (not-hidden r (not-withheld r q) table (rw (made r q)) side)
+
+  module _ (table buffer : List ℕ) where
+    answered : (side : ℕ) → screened m side table buffer .answer .reply ≡ 0
+    unfolding replied
+    answered side =
+        screened-cases m side table buffer (λ (s : Screened). s .answer .reply ≡ 0)
+        (record {
+          other-side = refl;
+          is-refused = λ a q. refused-silent l es (h .rest) a (sym judged-so ∙ q);
+          is-full = λ r q f. never (cc (not-full r q side table, f));
+          no-room = λ r n q. rw (made r q);
+          is-sent = λ r q f. refl;
+        })
+
+    same-sides : (screened m 1 table buffer ≡ screened m 0 table buffer) × (screened m 1 table buffer .table ≡ table)
+    unfolding screened verdict
+    same-sides = go (judgement m) refl
+      where
+        go : (j : Judgement) → judgement m ≡ j
+            → (screened m 1 table buffer ≡ screened m 0 table buffer) × (screened m 1 table buffer .table ≡ table)
+        go (refused a) q = rw q (refl, refl)
+        go (accepted r) q =
+            rw (q, as-it-is r q 1 table, as-it-is r q 0 table)
+            (refl, written-cases (λ (s : Screened). s .table ≡ table) buffer table (r .line) (output false r) table refl refl)
 
   -- ---- the trunk number
 
@@ -158,24 +168,24 @@ read-response m l s k h e = rw (is-response (leb (length m) 8192) (header 0 (dro
     is-response true (some f) p q = fields (leb (length (f .fields)) 96) f (rw (p, s, q) at e)
 
 pub no-reply : NoReply
-unfolding screened judgement
-no-reply m l s side buffer = go (lines m) refl
+unfolding screened verdict judgement
+no-reply m l s side table buffer = go (lines m) refl
   where
-    unreplied : (t : Bool) (n : ℕ) → leb side 1 ≡ t → lines m ≡ unread n → screened m side buffer .answer .reply ≡ 0
+    unreplied : (t : Bool) (n : ℕ) → leb side 1 ≡ t → lines m ≡ unread n → screened m side table buffer .answer .reply ≡ 0
     unreplied true n p e = rw (p, e) refl
     unreplied false n p e = rw p refl
 
-    go : (r : Lines) → lines m ≡ r → screened m side buffer .answer .reply ≡ 0
+    go : (r : Lines) → lines m ≡ r → screened m side table buffer .answer .reply ≡ 0
     go (unread n) e = unreplied (leb side 1) n refl e
-    go (read k h) e = answered m l h (read-response m l s k h e) side buffer
+    go (read k h) e = answered m l h (read-response m l s k h e) table buffer side
 
 pub nothing-anonymous : NothingAnonymous
-unfolding screened judgement
-nothing-anonymous m l s buffer = go (lines m) refl
+unfolding screened verdict judgement
+nothing-anonymous m l s table buffer = go (lines m) refl
   where
-    go : (r : Lines) → lines m ≡ r → screened m 1 buffer ≡ screened m 0 buffer
-    go (unread n) e = rw e refl
-    go (read k h) e = same-sides m l h (read-response m l s k h e) buffer
+    go : (r : Lines) → lines m ≡ r → (screened m 1 table buffer ≡ screened m 0 table buffer) × (screened m 1 table buffer .table ≡ table)
+    go (unread n) e = rw e (refl, refl)
+    go (read k h) e = same-sides m l h (read-response m l s k h e) table buffer
 
 pub response-calling : ResponseCalling
 unfolding judgement

@@ -9,10 +9,11 @@ use Rattle.sip.specs.Output.{digits, startLine, anonymous, sentValue, li
 use Rattle.sip.specs.Profile.{rows, lookup, numberOf, find, nameOf, once, mark, columnOf, responseColumn, ignored, mandatory, numbers}
 use Rattle.sip.specs.Refusals.{replied, lines, kept, valueOf, occurs, toTagged, withheld, contentLength, bodyOf, otherScheme, reason7, isUri}
 use Rattle.sip.specs.Refusals.{reason8, firstRepeat, reason9, wellFormed, brought, firstMalformed, reason10, exceeds, reason11, missingOf}
-use Rattle.sip.specs.Refusals.{reason12}
-use Rattle.sip.specs.Refusals.{noHops, reason13, allTags, firstLacking, reason14, reason15, reasons, responseReasons, judgedRequest}
+use Rattle.sip.specs.Refusals.{reason12, noHops, reason13, allTags, firstLacking, reason14, reason15, reasons, responseReasons, judgedRequest}
 use Rattle.sip.specs.Refusals.{firstCSeqMethod, responseColumnOf, judgedResponse, judgement}
-use Rattle.sip.specs.Screen.{masks, delivered, screened}
+use Rattle.sip.specs.Calls.{isTagValue, isPair, samePair, isIn, distinct, places, tableOf, stored, pairAt, placeWith, freePlace, pairsIn, held}
+use Rattle.sip.specs.Calls.{isHeld, isFull, noneHeld, firstWhere, startsWith0, firstSpare, newPlace, placed, entered, holds, cleared, removed}
+use Rattle.sip.specs.Screen.{callOf, hides, closes as closesCall, masks, overfills, callsAfter, decided, verdict, screened}
 use Rattle.sip.specs.Starred.{linesOf, callWith, call, printed, blankBuffer, starred}
 use Rattle.sip.specs.Responses.{responseWith, written, responses}
 use Rattle.sip.specs.Privacy.{requestWith, outgoing, callWithPrivacy, masked, unmasked, privacies}
@@ -40,7 +41,9 @@ unfolding status cause statusEntries classEnds nextAbove rowOf statusOf causeEnt
     once mark columnOf responseColumn ignored mandatory numbers replied lines kept valueOf occurs toTagged withheld contentLength bodyOf
     otherScheme reason7 isUri reason8 firstRepeat reason9 wellFormed brought firstMalformed reason10 exceeds reason11 missingOf reason12
     noHops reason13 allTags firstLacking reason14 reason15 reasons responseReasons judgedRequest firstCSeqMethod responseColumnOf
-    judgedResponse judgement masks delivered screened linesOf callWith call printed blankBuffer starred responseWith written responses
+    judgedResponse judgement isTagValue isPair samePair isIn distinct places tableOf stored pairAt placeWith freePlace pairsIn held
+    isHeld isFull noneHeld firstWhere startsWith0 firstSpare newPlace placed entered holds cleared removed callOf hides closesCall masks
+    overfills callsAfter decided verdict screened linesOf callWith call printed blankBuffer starred responseWith written responses
     requestWith outgoing callWithPrivacy masked unmasked privacies otherCall shown shortCall shortSent byeFrom byeSent manyFields spaces
     stretched pairs twoFields anyWithholds twoHeaders twoStarts areTwoCallers valueSpan valueSpans spans count place readingAt reading
     asserted sipOr callerIn callingNumber areAllowed only identityCases isEmpty isNumber isMaxForwards isContentLength isCSeq cseqMethod

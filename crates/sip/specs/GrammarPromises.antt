@@ -5,7 +5,7 @@
 -- of the canonical value of each kept field, with the method of the message, and `allowed` of the identities up to it (reason 10),
 -- `cseqMethod` of the first CSeq of a response (reason 6), `isTagged` of To ("re"), `restricts` of a Privacy that is not ignored, `isLacking`
 -- of each required tag (reason 14). `NothingLifts` and `OthersChangeNothing` compare two values of Privacy; `WithheldRead` is of every message
--- that no reason but 1 and 16 refuses.
+-- that no reason but 1, 16 and 18 refuses.
 use mathlib.Core.Path.{_≡_}
 use mathlib.Core.Bool.{true, false, cond}
 use mathlib.Core.List.{List, [], _∷_, _++_, map}
@@ -119,7 +119,7 @@ pub record Withholding (column : Option Column) (f : Field) : Type 0 where
   pub derived : Tokens 59 (canonical (f .value)) priv-values
   pub restricting : HoldsAny Restricting priv-values
 
--- a message that no reason but 1 and 16 refuses is withheld exactly if one of its fields is such a Privacy
+-- a message that no reason but 1, 16 and 18 refuses is withheld exactly if one of its fields is such a Privacy
 abbrev pub WithheldRead : Type 0
 WithheldRead =
     (m : List ℕ) (l : Start) (h : Header) (r : Passed) → lines m ≡ read l h → judgement m ≡ accepted r

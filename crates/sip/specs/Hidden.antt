@@ -7,10 +7,11 @@ use Prim.Native.String.{String}
 use lib.ListN.{take, drop}
 use Rattle.octets.specs.Classes.{text}
 use Rattle.sip.specs.Refusals.{refusal}
-use Rattle.sip.specs.Screen.{Screened, refusing, screened}
+use Rattle.sip.specs.Calls.{noneHeld}
+use Rattle.sip.specs.Screen.{screened}
 use Rattle.sip.specs.Readings.{reading, callingNumber}
 use Rattle.sip.specs.Callers.{TwoCallers}
-use Rattle.sip.specs.Starred.{linesOf, callWith, call, printed, blankBuffer, invite, hops, caller, identity, noBody}
+use Rattle.sip.specs.Starred.{linesOf, callWith, call, printed, blankBuffer, invite, hops, caller, identity, noBody, Given, given, refusing}
 
 -- ---- document 01's call, and one with another number and a display name in both values
 
@@ -35,16 +36,16 @@ pub record OtherCall : Type 0 where
 -- ---- a row: two messages and what they give
 
 -- two callers: on side 1 and with this buffer both give this
-pub record Alike (m m′ buffer : List ℕ) (gives : Screened) : Type 0 where
+pub record Alike (m m′ buffer : List ℕ) (gives : Given) : Type 0 where
   pub two-callers : TwoCallers m m′
   pub bytes-differ : m ≡ m′ → ⊥
-  pub first-gives : screened m 1 buffer ≡ gives
-  pub second-gives : screened m′ 1 buffer ≡ gives
+  pub first-gives : given (screened m 1 noneHeld buffer) ≡ gives
+  pub second-gives : given (screened m′ 1 noneHeld buffer) ≡ gives
 
 -- on this side and with this buffer the first gives this and the second that, and the buffers afterwards differ
-pub record Apart (m m′ : List ℕ) (side : ℕ) (buffer : List ℕ) (gives gives′ : Screened) : Type 0 where
-  pub first-gives : screened m side buffer ≡ gives
-  pub second-gives : screened m′ side buffer ≡ gives′
+pub record Apart (m m′ : List ℕ) (side : ℕ) (buffer : List ℕ) (gives gives′ : Given) : Type 0 where
+  pub first-gives : given (screened m side noneHeld buffer) ≡ gives
+  pub second-gives : given (screened m′ side noneHeld buffer) ≡ gives′
   pub buffers-differ : gives .buffer ≡ gives′ .buffer → ⊥
 
 -- two callers: the parts that are handed back of them differ
@@ -55,8 +56,8 @@ pub record HandedBack (hands : List ℕ → List ℕ) (m m′ part part′ : Lis
   pub parts-differ : part ≡ part′ → ⊥
 
 pub data Pair : Type 0 where
-  alike : List ℕ → List ℕ → List ℕ → Screened → Pair
-  apart : List ℕ → List ℕ → ℕ → List ℕ → Screened → Screened → Pair
+  alike : List ℕ → List ℕ → List ℕ → Given → Pair
+  apart : List ℕ → List ℕ → ℕ → List ℕ → Given → Given → Pair
   handedBack : (List ℕ → List ℕ) → List ℕ → List ℕ → List ℕ → List ℕ → Pair
 
 abbrev pub PairHolds : Pair → Type 0
@@ -72,11 +73,11 @@ pub data PairsHold : List Pair → Type 0 where
 -- ---- what the rows are put together from
 
 -- the n bytes o go out, and the other bytes of the buffer stay
-abbrev sent : ℕ → List ℕ → ℕ → Screened
+abbrev sent : ℕ → List ℕ → ℕ → Given
 sent n o room =
     record { answer = record { reason = 0; reply = 0; detail = 0; missing = 0; length = n }; buffer = o ++ drop n (blankBuffer room) }
 
-abbrev untouched : ℕ → ℕ → ℕ → ℕ → ℕ → Screened
+abbrev untouched : ℕ → ℕ → ℕ → ℕ → ℕ → Given
 untouched reason reply detail missing room = refusing (refusal reason reply detail missing) (blankBuffer room)
 
 -- what goes out of document 01's call where it is not masked, with these lines for From and P-Asserted-Identity
@@ -144,7 +145,7 @@ shortRefused from from′ asserted asserted′ others reason reply detail missin
     (blankBuffer 9216) (untouched reason reply detail missing 9216)
 
 -- the shorter calls on side 1: the first goes out masked, and the second gives that
-abbrev maskedBut : List String → List String → Screened → Pair
+abbrev maskedBut : List String → List String → Given → Pair
 maskedBut from asserted gives =
     apart (shortCall ann plainTo annsIdentity ("Privacy: id" ∷ [])) (shortCall from plainTo asserted ("Privacy: id" ∷ [])) 1
     (blankBuffer 9216) (sent 209 (shortSent anonymousFrom plainTo ("Privacy: id" ∷ [])) 9216) gives

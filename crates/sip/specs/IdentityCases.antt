@@ -5,8 +5,7 @@ use Prim.Native.String.{String}
 use lib.ListN.{drop}
 use Rattle.octets.specs.Classes.{text}
 use Rattle.sip.specs.Refusals.{refusal}
-use Rattle.sip.specs.Screen.{refusing}
-use Rattle.sip.specs.Starred.{linesOf, blankBuffer, Case, screening, calling, counting}
+use Rattle.sip.specs.Starred.{linesOf, blankBuffer, Case, screening, calling, counting, refusing}
 use Rattle.sip.specs.Hidden.{ann, annsFrom, plainTo, taggedTo, anonymousFrom, shortCall, shortSent, byeSent}
 
 -- ---- what the rows are put together from

@@ -3,7 +3,10 @@ pub mod Profile
 pub mod Values
 pub mod Refusals
 pub mod Output
+pub mod Calls
 pub mod Screen
+pub mod History
+pub mod CallPromises
 pub mod Change
 pub mod Readings
 pub mod Promises
@@ -16,3 +19,4 @@ pub mod Asserted
 pub mod Callers
 pub mod Hidden
 pub mod IdentityCases
+pub mod CallCases

@@ -61,6 +61,7 @@ fieldLines masked body (e ∷ es) =
     let others = fieldLines masked body es in
     cond (masked && eqb (e .number) 15) others (line (e .number) (sentValue masked body e) ++ others)
 
--- "Start line, then the fields .., then the empty line and the body." Masked: "On side 1 with the caller withheld"
+-- "Start line, then the fields .., then the empty line and the body." Masked: "On side 1 with the caller withheld", and CR 8: a "request to side
+-- 1 with a remembered pair"
 unfoldable pub output : Bool → Passed → List ℕ
 output masked r = startLine (r .line) ++ (fieldLines masked (length (r .body)) (r .fields) ++ (crlf ++ r .body))

@@ -5,8 +5,7 @@ use Prim.Native.String.{String}
 use lib.ListN.{drop}
 use Rattle.octets.specs.Classes.{text}
 use Rattle.sip.specs.Refusals.{refusal}
-use Rattle.sip.specs.Screen.{refusing}
-use Rattle.sip.specs.Starred.{linesOf, blankBuffer, Case, screening, calling, refuses, sends}
+use Rattle.sip.specs.Starred.{linesOf, blankBuffer, Case, screening, calling, refuses, sends, refusing}
 use Rattle.sip.specs.Responses.{responseWith, written}
 
 -- a request with this start line, To and CSeq, and these fields after them

@@ -12,11 +12,12 @@ use Rattle.sip.specs.declared.Column.the-variants.{Invite, Reinvite}
 use Rattle.sip.specs.Lines.{RequestLine, StatusLine, requestLine, statusLine, Start, request, response, start, startSize, Field, Header}
 use Rattle.sip.specs.Lines.{canonical}
 use Rattle.sip.specs.Profile.{numberOf, ignored}
-use Rattle.sip.specs.Refusals.{Answer, lines, read, headerLines, Entry, kept, withheld, firstMalformed, Passed, messageColumn, keptOf}
+use Rattle.sip.specs.Refusals.{Answer, refusal, lines, read, headerLines, Entry, kept, withheld, firstMalformed, Passed, messageColumn, keptOf}
 use Rattle.sip.specs.Refusals.{judgement, accepted}
 use Rattle.sip.specs.Values.{isFrom, tagOf, isGlobal}
 use Rattle.sip.specs.Output.{output}
-use Rattle.sip.specs.Screen.{delivered, screened}
+use Rattle.sip.specs.Calls.{isHeld}
+use Rattle.sip.specs.Screen.{callOf, masks, overfills, callsAfter, refuses, sends, verdict, screened}
 use Rattle.sip.specs.Readings.{callingNumber, callingPart}
 use Rattle.sip.specs.Change.{Changed}
 use Rattle.sip.specs.Grammar.{UriParts, personOf}
@@ -28,9 +29,11 @@ abbrev pub OneKind : Type 0
 OneKind = (s : List ℕ) (l : RequestLine) (a : StatusLine) → requestLine s ≡ some l → statusLine s ≡ some a → ⊥
 
 -- Demand 3: "Inserting any number of well-shaped ignored fields anywhere, and writing listed names in long or compact form and any case,
--- changes nothing: not the answer, not one byte of the buffer."
+-- changes nothing: not the answer, not one byte of the buffer." CR 8: "Demands 2 and 3 .. read with the same table before; the table after is
+-- part of the answer."
 abbrev pub Demand3 : Type 0
-Demand3 = (m m′ : List ℕ) (side : ℕ) (buffer : List ℕ) → Changed m m′ → screened m′ side buffer ≡ screened m side buffer
+Demand3 =
+    (m m′ : List ℕ) (side : ℕ) (table buffer : List ℕ) → Changed m m′ → screened m′ side table buffer ≡ screened m side table buffer
 
 -- CR 1: a change cannot move the column by which fields are ignored: the changed message has the original's
 abbrev pub SameColumn : Type 0
@@ -56,23 +59,28 @@ NothingElse = (m m′ : List ℕ) (c : Changed m m′) → BothRead m m′ c
 
 -- CR 1, of responses: "reply always 0"
 abbrev pub NoReply : Type 0
-NoReply = (m : List ℕ) (l : StatusLine) → start m ≡ some (response l) → (side : ℕ) (buffer : List ℕ) → screened m side buffer .answer .reply ≡ 0
+NoReply =
+    (m : List ℕ) (l : StatusLine) → start m ≡ some (response l) → (side : ℕ) (table buffer : List ℕ)
+    → screened m side table buffer .answer .reply ≡ 0
 
--- CR 1, of responses: "nothing is made anonymous": what goes to side 1 is what goes to side 0
+-- CR 1, of responses: "nothing is made anonymous": what goes to side 1 is what goes to side 0, whatever calls are remembered; and a response
+-- changes no table
 abbrev pub NothingAnonymous : Type 0
-NothingAnonymous = (m : List ℕ) (l : StatusLine) → start m ≡ some (response l) → (buffer : List ℕ) → screened m 1 buffer ≡ screened m 0 buffer
+NothingAnonymous =
+    (m : List ℕ) (l : StatusLine) → start m ≡ some (response l) → (table buffer : List ℕ)
+    → (screened m 1 table buffer ≡ screened m 0 table buffer) × (screened m 1 table buffer .table ≡ table)
 
--- CR 2: "Privacy is not ignored": of the requests that no reason but 1 and 16 refuses, an INVITE alone is withheld
+-- CR 2: "Privacy is not ignored": of the requests that no reason but 1, 16 and 18 refuses, an INVITE alone is withheld
 abbrev pub OnlyInvites : Type 0
 OnlyInvites =
     (m : List ℕ) (l : RequestLine) (h : Header) (r : Passed) → lines m ≡ read (request l) h → judgement m ≡ accepted r
     → withheld (r .fields) ≡ true → l .method ≡ text "INVITE"
 
--- CR 2: where the caller is not withheld nothing is masked: what goes to side 1 is what goes to side 0
+-- CR 2 and CR 8: where the caller is not withheld and the pair not remembered nothing is masked: what goes to side 1 is what goes to side 0
 abbrev pub OnlyWithheldMasked : Type 0
 OnlyWithheldMasked =
-    (m : List ℕ) (r : Passed) → judgement m ≡ accepted r → withheld (r .fields) ≡ false → (buffer : List ℕ)
-    → screened m 1 buffer ≡ screened m 0 buffer
+    (m : List ℕ) (r : Passed) → judgement m ≡ accepted r → withheld (r .fields) ≡ false → (table buffer : List ℕ)
+    → isHeld (callOf (r .fields)) table ≡ false → screened m 1 table buffer ≡ screened m 0 table buffer
 
 -- "both INVITE columns ignore the same"
 abbrev pub SameIgnored : Type 0
@@ -87,7 +95,7 @@ unfoldable pub without : ℕ → List Entry → List Entry
 without n [] = []
 without n (e ∷ es) = let others = without n es in cond (eqb (e .number) n) others (e ∷ others)
 
--- CR 6: a message that no reason but 1 and 16 refuses, and that does not ignore P-Asserted-Identity, has allowed identities: none, one, or one
+-- CR 6: a message that no reason but 1, 16 and 18 refuses, and that does not ignore P-Asserted-Identity, has allowed identities: none, one, or one
 -- sip and one tel. (That an initial INVITE has one at all is reason 12's.)
 abbrev pub OnlyAllowed : Type 0
 OnlyAllowed =
@@ -97,7 +105,8 @@ OnlyAllowed =
 -- and a message that has allowed identities, or ignores P-Asserted-Identity, is never refused with 10 and detail 15
 pub record NotForThem (m : List ℕ) : Type 0 where
   pub never-10-15 :
-      (side : ℕ) (buffer : List ℕ) → screened m side buffer .answer .reason ≡ 10 → screened m side buffer .answer .detail ≡ 15 → ⊥
+      (side : ℕ) (table buffer : List ℕ) → screened m side table buffer .answer .reason ≡ 10
+      → screened m side table buffer .answer .detail ≡ 15 → ⊥
 
 abbrev pub AllowedPass : Type 0
 AllowedPass = (m : List ℕ) (l : Start) (h : Header) → lines m ≡ read l h → IdentitiesAllowed (h .fields) → NotForThem m
@@ -116,16 +125,25 @@ FieldThatBringsIt =
 -- CR 6: "reason 9 never names 15"
 abbrev pub NeverRepeated : Type 0
 NeverRepeated =
-    (m : List ℕ) (side : ℕ) (buffer : List ℕ) → screened m side buffer .answer .reason ≡ 9 → screened m side buffer .answer .detail ≡ 15 → ⊥
+    (m : List ℕ) (side : ℕ) (table buffer : List ℕ) → screened m side table buffer .answer .reason ≡ 9
+    → screened m side table buffer .answer .detail ≡ 15 → ⊥
 
--- CR 6: "When withheld on side 1, all of them go": what goes out is what goes out of a message with the same other fields and no
--- P-Asserted-Identity
+-- CR 6: "When withheld on side 1, all of them go", and so with a remembered pair (CR 8): where no reason 18 refuses it, what goes out is what goes
+-- out of a message with the same other fields and no P-Asserted-Identity
 abbrev pub AllGo : Type 0
 AllGo =
-    (m : List ℕ) (r : Passed) (buffer : List ℕ) → judgement m ≡ accepted r → withheld (r .fields) ≡ true
-    → screened m 1 buffer ≡ delivered r (output true (record { line = r .line; fields = without 15 (r .fields); body = r .body })) buffer
+    (m : List ℕ) (r : Passed) (table : List ℕ) → judgement m ≡ accepted r → masks 1 table r ≡ true
+    → verdict m 1 table
+    ≡ cond (overfills 1 table r) (refuses (refusal 18 503 0 0))
+    (sends (r .line) (output true (record { line = r .line; fields = without 15 (r .fields); body = r .body })) (callsAfter 1 table r))
 
--- CR 6: of a message that no reason but 1 and 16 refuses and that does not ignore P-Asserted-Identity, with a good trunk number, the calling
+-- CR 8: "Any accepted request to side 1 with a remembered pair .. has From masked and P-Asserted-Identity dropped": of every method
+abbrev pub RememberedMasked : Type 0
+RememberedMasked =
+    (m : List ℕ) (l : RequestLine) (r : Passed) (table : List ℕ) → judgement m ≡ accepted r → r .line ≡ request l
+    → isHeld (callOf (r .fields)) table ≡ true → verdict m 1 table ≡ sends (request l) (output true r) (callsAfter 1 table r)
+
+-- CR 6: of a message that no reason but 1, 16 and 18 refuses and that does not ignore P-Asserted-Identity, with a good trunk number, the calling
 -- number is that of the sip identity, or of the only one; where it asserts none it is the trunk number
 pub record CallingRead (m trunk : List ℕ) (us : List UriParts) : Type 0 where
   pub from-identity : (u : UriParts) → Calling us u → callingNumber m trunk ≡ personOf u
@@ -147,9 +165,10 @@ abbrev pub CallingPart : Type 0
 CallingPart = (m trunk : List ℕ) → callingPart m trunk ≡ callingNumber m trunk
 
 -- CR 5, "The digits cannot show": of two callers, on side 1 and with the same buffer, "The whole answer and the buffer afterwards are then the
--- same." The answer is its five numbers; refusals are answers too
+-- same." The answer is its five numbers; refusals are answers too. CR 8: "CR 5 read with the same table before; the table after is part of the
+-- answer"
 abbrev pub DigitsHidden : Type 0
-DigitsHidden = (m m′ buffer : List ℕ) → TwoCallers m m′ → screened m′ 1 buffer ≡ screened m 1 buffer
+DigitsHidden = (m m′ table buffer : List ℕ) → TwoCallers m m′ → screened m′ 1 table buffer ≡ screened m 1 table buffer
 
 -- "both withheld": either of the two may be called the first
 abbrev pub EitherWay : Type 0
@@ -195,10 +214,19 @@ Growth = (m : List ℕ) (r : Passed) (masked : Bool) → judgement m ≡ accepte
 -- ---- "Useless versions: one that refuses everything, one fixed answer, and one that leaves the buffer untouched"
 
 abbrev pub NotConstant : Type 0
-NotConstant = (a : Answer) → ((m : List ℕ) (side : ℕ) (buffer : List ℕ) → screened m side buffer .answer ≡ a) → ⊥
+NotConstant = (a : Answer) → ((m : List ℕ) (side : ℕ) (table buffer : List ℕ) → screened m side table buffer .answer ≡ a) → ⊥
 
 abbrev pub NotRefusing : Type 0
-NotRefusing = ((m : List ℕ) (side : ℕ) (buffer : List ℕ) → 0 < screened m side buffer .answer .reason) → ⊥
+NotRefusing = ((m : List ℕ) (side : ℕ) (table buffer : List ℕ) → 0 < screened m side table buffer .answer .reason) → ⊥
 
 abbrev pub NotUntouched : Type 0
-NotUntouched = ((m : List ℕ) (side : ℕ) (buffer : List ℕ) → screened m side buffer .buffer ≡ buffer) → ⊥
+NotUntouched = ((m : List ℕ) (side : ℕ) (table buffer : List ℕ) → screened m side table buffer .buffer ≡ buffer) → ⊥
+
+-- and one that remembers nothing
+abbrev pub NotForgetful : Type 0
+NotForgetful = ((m : List ℕ) (side : ℕ) (table buffer : List ℕ) → screened m side table buffer .table ≡ table) → ⊥
+
+-- one that does not look at the table when it writes
+abbrev pub NotBlind : Type 0
+NotBlind =
+    ((m : List ℕ) (side : ℕ) (table other buffer : List ℕ) → screened m side table buffer .buffer ≡ screened m side other buffer .buffer) → ⊥

@@ -231,7 +231,7 @@ reasons c l es rest =
 unfoldable pub responseReasons : Column → List ℕ → List Entry → List ℕ → List (Option Answer)
 responseReasons c method es rest = reason9 es ∷ reason10 method es ∷ reason11 es rest ∷ reason12 c es rest ∷ []
 
--- a message that no reason but 1 and 16 refuses: its start line, its kept fields and its body
+-- a message that no reason but 1, 16 and 18 refuses: its start line, its kept fields and its body
 pub record Passed : Type 0 where
   pub line : Start
   pub fields : List Entry

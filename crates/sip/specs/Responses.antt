@@ -4,8 +4,7 @@ use Prim.Native.Nat.{ℕ}
 use Prim.Native.String.{String}
 use Rattle.octets.specs.Classes.{text}
 use Rattle.sip.specs.Refusals.{refusal}
-use Rattle.sip.specs.Screen.{refusing}
-use Rattle.sip.specs.Starred.{linesOf, blankBuffer, Case, screening, calling, counting, refuses, sends}
+use Rattle.sip.specs.Starred.{linesOf, blankBuffer, Case, screening, calling, counting, refuses, sends, refusing}
 
 -- a response with this start line, these CSeq fields, and these fields after them
 unfoldable pub responseWith : String → List String → List String → List ℕ

@@ -7,8 +7,9 @@ use lib.ListN.{drop}
 use Rattle.octets.specs.Classes.{text}
 use Rattle.causes.specs.Causes.{status, cause}
 use Rattle.sip.specs.Lines.{crlf}
-use Rattle.sip.specs.Refusals.{refusal}
-use Rattle.sip.specs.Screen.{Screened, refusing, screened}
+use Rattle.sip.specs.Refusals.{Answer, refusal}
+use Rattle.sip.specs.Calls.{noneHeld}
+use Rattle.sip.specs.Screen.{Screened, screened}
 use Rattle.sip.specs.Readings.{count, callingNumber}
 
 -- "lines end in CRLF, the empty line last"
@@ -56,17 +57,29 @@ unfoldable pub blankBuffer : ℕ → List ℕ
 blankBuffer zero = []
 blankBuffer (suc n) = 0 ∷ blankBuffer n
 
+-- what a row tells of a screening: the answer and the buffer afterwards
+pub record Given : Type 0 where
+  pub answer : Answer
+  pub buffer : List ℕ
+
+abbrev pub given : Screened → Given
+given s = record { answer = s .answer; buffer = s .buffer }
+
+abbrev pub refusing : Answer → List ℕ → Given
+refusing a buffer = record { answer = a; buffer = buffer }
+
 -- a row: a message, its side, the buffer, and what it gives; a message, the trunk number, and the calling number; a message, a field's
 -- number, and its count; a cause, its status and (CR 4) its row; a status and its cause
 pub data Case : Type 0 where
-  screening : List ℕ → ℕ → List ℕ → Screened → Case
+  screening : List ℕ → ℕ → List ℕ → Given → Case
   calling : List ℕ → List ℕ → List ℕ → Case
   counting : List ℕ → ℕ → ℕ → Case
   causeGives : ℕ → ℕ → ℕ → Case
   statusGives : ℕ → ℕ → Case
 
+-- no calls are remembered before a screening (CR 8)
 abbrev pub Holds : Case → Type 0
-Holds (screening m side buffer gives) = screened m side buffer ≡ gives
+Holds (screening m side buffer gives) = given (screened m side noneHeld buffer) ≡ gives
 Holds (calling m trunk gives) = callingNumber m trunk ≡ gives
 Holds (counting m n gives) = count m n ≡ gives
 Holds (causeGives c s r) = status c ≡ record { status = s; row = r; refusal = 0 }

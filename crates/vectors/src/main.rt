@@ -1,5 +1,7 @@
-// Screens recorded cases from standard input, and prints the numbers of each answer and a checksum of the whole buffer afterwards.
-// A case is a side byte, two bytes of room and two of length, each high byte first, and the message.
+// Runs recorded cases from standard input, and prints what each answers, and checksums of the whole buffer and the whole table of calls
+// afterwards. A case is a kind byte, a side byte, two bytes of room and two of length, each high byte first, and as many bytes as the length
+// says. Kind 0: they are a message, screened with none held. 1: a message, screened with the table that the case before left. 2: they are the
+// front of the table, and the rest of it is zeros. 3: a Call-ID, as long as the room says, and a tag, whose call is ended.
 use gateway::Verdict;
 ghost use Prim.Native.Nat.{_<_};
 
@@ -33,8 +35,8 @@ fn checksum(s: &[u8]) -> u64 {
     (high * 65536 + low) as u64
 }
 
-fn show(message: &[u8], side: u8, out: &mut [u8]) {
-    match gateway::screen(message, side as u64, out) {
+fn screen(message: &[u8], side: u8, table: &mut [u8; 6208], out: &mut [u8]) {
+    match gateway::screen(message, side as u64, table, out) {
         Verdict::Accepted(len) => {
             io::write_all(1, b"0 0 0 0 ");
             print(len as u64, b" ");
@@ -46,17 +48,43 @@ fn show(message: &[u8], side: u8, out: &mut [u8]) {
             print(r.missing, b" 0 ");
         }
     }
-    print(checksum(out), b"\n");
+    print(checksum(out), b" ");
+}
+
+// Puts the bytes to the front of the table, and zeros behind them.
+fn fill(table: &mut [u8; 6208], s: &[u8]) {
+    *table = [0u8; 6208];
+    emit::put(table, 0, s);
+}
+
+fn end(table: &mut [u8; 6208], s: &[u8], id_len: usize) {
+    let answer = calls::end(table, octets::first(s, id_len), octets::rest(s, id_len));
+    print(answer, b" ");
+}
+
+fn run(kind: u8, side: u8, room: usize, s: &[u8], table: &mut [u8; 6208], out: &mut [u8]) {
+    if kind == 2 {
+        fill(table, s);
+        return;
+    }
+    if kind == 3 {
+        end(table, s, room);
+        return;
+    }
+    if kind == 0 {
+        fill(table, b"");
+    }
+    screen(s, side, table, out);
 }
 
 // One case; whether there was one that is whole.
-fn case(message: &mut [u8], out: &mut [u8]) -> bool {
-    let mut head = [0u8; 5];
-    if io::read_full(0, &mut head) != 5 {
+fn case(message: &mut [u8], out: &mut [u8], table: &mut [u8; 6208]) -> bool {
+    let mut head = [0u8; 6];
+    if io::read_full(0, &mut head) != 6 {
         return false;
     }
-    let room = number(head[1], head[2]);
-    let len = number(head[3], head[4]);
+    let room = number(head[2], head[3]);
+    let len = number(head[4], head[5]);
     if message.len() < len {
         return false;
     }
@@ -66,15 +94,18 @@ fn case(message: &mut [u8], out: &mut [u8]) -> bool {
     if io::read_full(0, &mut message[..len]) != len {
         return false;
     }
-    show(&message[..len], head[0], &mut out[..room]);
+    let given = octets::first(message, len);
+    run(head[0], head[1], room, given, table, &mut out[..room]);
+    print(checksum(table), b"\n");
     true
 }
 
 fn main() {
     let mut message = [0u8; 65535];
+    let mut table = [0u8; 6208];
     for _ in 0..65536usize {
         let mut out = [165u8; 65535];
-        if !case(&mut message, &mut out) {
+        if !case(&mut message, &mut out, &mut table) {
             return;
         }
     }

@@ -1,16 +1,15 @@
 -- One count is set.
 use mathlib.Core.Path.{_≡_}
-use Prim.Native.Nat.{ℕ, _+_}
+use mathlib.Core.List.{List}
+use Prim.Native.Nat.{ℕ}
 use lib.ListN.{getD, set}
-use Rattle.records.specs.Running.{oneMore, countedAt}
-use Rattle.records.specs.declared.Replay.{Replay}
+use Rattle.records.specs.Running.{oneMore}
 use borrow.Author.Needs.{needs}
 use Rattle.records.proofs.count.Statement.{statement}
 use Rattle.records.proofs.count.Tie as tie
 
-counts-set : (st : Replay) (at : ℕ) {k n : ℕ} → k ≡ oneMore (getD (st .counts) at 0) → n ≡ st .read + 1
-    → record { counts = set (st .counts) at k; read = n; end = st .end } ≡ countedAt st at
-counts-set st at p q = rw (p, q)
+counts-set : (cs : List ℕ) (at : ℕ) {k : ℕ} → k ≡ oneMore (getD cs at 0) → set cs at k ≡ set cs at (oneMore (getD cs at 0))
+counts-set cs at p = rw p
 
 mul-one-more : tie.Need-mul-one-more
 mul-one-more c = search needs

@@ -1,21 +1,24 @@
 -- The records before a place are taken, and the text from there on gives the others (Whole).
 use Prim.Native.Nat.{_-_, _≤_}
 use lib.ListN.{length}
+use Rattle.sip.specs.Calls.{noneHeld}
+use Rattle.records.specs.Running.{stateOf}
 use Rattle.records.proofs.Whole.{Before, before-all, at-end, whole-over, next-fits, next-inside, next-before, next-less}
 use borrow.Author.Needs.{needs}
 use Rattle.records.proofs.replay_text.Statement.{statement}
 use Rattle.records.proofs.replay_text.Tie as tie
 
 abbrev Inv-loop : tie.InvT-loop
-Inv-loop text st₀ at₀ st at = (at ≤ length text) × Before text st at
+Inv-loop text calls₀ st₀ at₀ calls st at = (at ≤ length text) × Before text (stateOf st calls) at
 
 abbrev μ-loop : tie.MeasureT-loop
-μ-loop text st₀ at₀ st at = length text - at
+μ-loop text calls₀ st₀ at₀ calls st at = length text - at
 
 start-requires : tie.Need-start-requires Inv-loop μ-loop
 start-requires c κs = search needs
 
 loop-holds : tie.Need-loop-holds Inv-loop μ-loop
+unfolding noneHeld
 loop-holds c = (search needs, search before-all)
 
 rest-requires : tie.Need-rest-requires Inv-loop μ-loop

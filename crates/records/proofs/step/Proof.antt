@@ -6,29 +6,30 @@ use native.Mathlib.Omega.{arith}
 use lib.ListN.{length, take, drop}
 use borrow.Author.Tests.{ne-eqb}
 use Rattle.records.specs.Records.{messageSize, recordAt, refusalAt}
-use Rattle.records.specs.Running.{ended, taken, stepped}
+use Rattle.records.specs.Running.{stateOf, taken, stepped}
 use Rattle.records.specs.declared.Replay.{Replay}
 use Rattle.records.proofs.Steps.{step-whole, step-bad}
 use borrow.Author.Needs.{needs}
 use Rattle.records.proofs.step.Statement.{statement}
 use Rattle.records.proofs.step.Tie as tie
 
-has-ended : (st : Replay) (s : List ℕ) → (st .end ≡ 0 → ⊥) → st ≡ stepped st s
-unfolding stepped
-has-ended st s nz = sym (rw (ne-eqb (st .end) 0 nz))
+module _ (st : Replay) (calls : List ℕ) where
+  has-ended : (s : List ℕ) → (st .end ≡ 0 → ⊥) → stateOf st calls ≡ stepped (stateOf st calls) s
+  unfolding stepped
+  has-ended s nz = sym (rw (ne-eqb (st .end) 0 nz))
 
-nothing : (st : Replay) (s : List ℕ) → st .end ≡ 0 → length s < 1 → st ≡ stepped st s
-unfolding stepped
-nothing st [] e l = sym (rw e)
-nothing st (b ∷ s) e l = absurd (omega arith)
+  nothing : (s : List ℕ) → st .end ≡ 0 → length s < 1 → stateOf st calls ≡ stepped (stateOf st calls) s
+  unfolding stepped
+  nothing [] e l = sym (rw e)
+  nothing (b ∷ s) e l = absurd (omega arith)
 
-module _ (st : Replay) (s : List ℕ) (going : st .end ≡ 0) (l : 1 ≤ length s) {e : ℕ} (q : e ≡ refusalAt s) {r : Replay} where
-  refused : (e ≡ 0 → ⊥) → r ≡ ended st e → r ≡ stepped st s
-  refused nz z = z ∙ rw q (sym (step-bad st s going (omega arith) (λ y. nz (q ∙ y))))
+  module _ (s : List ℕ) (going : st .end ≡ 0) (l : 1 ≤ length s) {e : ℕ} (q : e ≡ refusalAt s) {r : Replay} where
+    refused : (e ≡ 0 → ⊥) → r .counts ≡ st .counts → r .read ≡ st .read → r .end ≡ e → stateOf r calls ≡ stepped (stateOf st calls) s
+    refused nz a b c = rw (a, b, c, q) (sym (step-bad (stateOf st calls) s going (omega arith) (λ y. nz (q ∙ y))))
 
-  whole : {side len : ℕ} {m : List ℕ} → e ≡ 0 → side ≡ recordAt s .side → len ≡ messageSize s → m ≡ take len (drop 5 s) → r ≡ taken st side m
-      → r ≡ stepped st s
-  whole n a b c z = z ∙ rw (c, a, b) (sym (step-whole st s going (omega arith) (sym q ∙ n)))
+    whole : {side len : ℕ} {m : List ℕ} → e ≡ 0 → side ≡ recordAt s .side → len ≡ messageSize s → m ≡ take len (drop 5 s) → {left : List ℕ}
+        → stateOf r left ≡ taken (stateOf st calls) side m → stateOf r left ≡ stepped (stateOf st calls) s
+    whole n a b c z = z ∙ rw (c, a, b) (sym (step-whole (stateOf st calls) s going (omega arith) (sym q ∙ n)))
 
 returns : tie.Need-returns
 returns c = search (has-ended, needs)

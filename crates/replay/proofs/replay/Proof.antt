@@ -1,21 +1,24 @@
 -- Each turn takes a record or is the last (Texts).
 use mathlib.Core.Path.{_≡_}
 use lib.ListN.{length}
+use Rattle.sip.specs.Calls.{noneHeld}
+use Rattle.records.specs.Running.{stateOf}
 use Rattle.records.proofs.Texts.{Turn, turn-first, turn-none, turn-over, turn-next, turn-last}
 use borrow.Author.Needs.{needs}
 use Rattle.replay.proofs.replay.Statement.{statement}
 use Rattle.replay.proofs.replay.Tie as tie
 
 abbrev Inv-loop : tie.InvT-loop
-Inv-loop space₀ st₀ left₀ space st left = (length space ≡ 65540) × Turn st left
+Inv-loop space₀ calls₀ st₀ left₀ space calls st left = (length space ≡ 65540) × Turn (stateOf st calls) left
 
 abbrev μ-loop : tie.MeasureT-loop
-μ-loop space₀ st₀ left₀ space st left = left
+μ-loop space₀ calls₀ st₀ left₀ space calls st left = left
 
 start-requires : tie.Need-start-requires Inv-loop μ-loop
 start-requires c κs = search needs
 
 loop-holds : tie.Need-loop-holds Inv-loop μ-loop
+unfolding noneHeld
 loop-holds c = (search needs, search turn-first)
 
 slice-aggregate-read-record : tie.Need-slice-aggregate-read-record Inv-loop μ-loop

@@ -52,23 +52,32 @@ same-length c = search needs
 returns-4 : tie.Need-returns-4
 returns-4 c = search needs
 
-slice-reshare-prefix-show : tie.Need-slice-reshare-prefix-show
-slice-reshare-prefix-show c = search needs
+first-requires : tie.Need-first-requires
+first-requires c κs = search needs
 
-slice-aggregate-show : tie.Need-slice-aggregate-show
-slice-aggregate-show c = search (length-take-le, length-front, needs)
+array-read-run : tie.Need-array-read-run
+array-read-run c = search needs
 
-array-read-show : tie.Need-array-read-show
-array-read-show c = search needs
+array-read-run-2 : tie.Need-array-read-run-2
+array-read-run-2 c = search needs
 
-slice-relend-prefix-show : tie.Need-slice-relend-prefix-show
-slice-relend-prefix-show c = search needs
+slice-relend-prefix-run : tie.Need-slice-relend-prefix-run
+slice-relend-prefix-run c = search needs
 
-slice-aggregate-show-2 : tie.Need-slice-aggregate-show-2
-slice-aggregate-show-2 c = search (length-take-le, length-front, needs)
+slice-aggregate-run : tie.Need-slice-aggregate-run
+slice-aggregate-run c = search (length-take-le, length-front, needs)
 
-show-requires : tie.Need-show-requires
-show-requires c κs = search needs
+run-requires : tie.Need-run-requires
+run-requires c κs = search needs
+
+checksum-requires : tie.Need-checksum-requires
+checksum-requires c κs = search needs
+
+slice-aggregate-print : tie.Need-slice-aggregate-print
+slice-aggregate-print c = search needs
+
+print-requires : tie.Need-print-requires
+print-requires c κs = search needs
 
 same-length-2 : tie.Need-same-length-2
 same-length-2 c = search needs
@@ -99,12 +108,15 @@ case-spec =
     read-full-requires-2
     same-length
     returns-4
-    slice-reshare-prefix-show
-    slice-aggregate-show
-    array-read-show
-    slice-relend-prefix-show
-    slice-aggregate-show-2
-    show-requires
+    first-requires
+    array-read-run
+    array-read-run-2
+    slice-relend-prefix-run
+    slice-aggregate-run
+    run-requires
+    checksum-requires
+    slice-aggregate-print
+    print-requires
     same-length-2
     same-length-3
     returns-5)

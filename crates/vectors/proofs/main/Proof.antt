@@ -7,10 +7,10 @@ use Rattle.vectors.proofs.main.Statement.{statement}
 use Rattle.vectors.proofs.main.Tie as tie
 
 abbrev Inv-loop : tie.InvT-loop
-Inv-loop message₀ counter₀ message counter = (counter ≤ 65536) × (length message ≡ 65535)
+Inv-loop message₀ table₀ counter₀ message table counter = (counter ≤ 65536) × (length message ≡ 65535)
 
 abbrev μ-loop : tie.MeasureT-loop
-μ-loop message₀ counter₀ message counter = 65536 - counter
+μ-loop message₀ table₀ counter₀ message table counter = 65536 - counter
 
 loop-holds : tie.Need-loop-holds Inv-loop μ-loop
 loop-holds c = search needs

@@ -1,0 +1,10 @@
+pub mod Texts
+pub mod Firsts
+pub mod Says
+pub mod Forms
+pub mod Removing
+pub mod Placing
+pub mod Masks
+pub mod Parts
+pub mod Taken
+pub mod Spare

@@ -1,0 +1,50 @@
+-- Each state by itself.
+use Rattle.gateway.proofs.CallStates.{full-shown, full-hidden, full-ending, full-new, full-full}
+use borrow.Author.Needs.{needs}
+use Rattle.gateway.proofs.remembered.is_overfull.Statement.{statement}
+use Rattle.gateway.proofs.remembered.is_overfull.Tie as tie
+
+enum-told : tie.Need-enum-told
+enum-told c = search needs
+
+enum-told-2 : tie.Need-enum-told-2
+enum-told-2 c = search needs
+
+enum-told-3 : tie.Need-enum-told-3
+enum-told-3 c = search needs
+
+enum-told-4 : tie.Need-enum-told-4
+enum-told-4 c = search needs
+
+enum-told-5 : tie.Need-enum-told-5
+enum-told-5 c = search needs
+
+returns : tie.Need-returns
+returns c = search full-shown
+
+returns-2 : tie.Need-returns-2
+returns-2 c = search full-hidden
+
+returns-3 : tie.Need-returns-3
+returns-3 c = search full-ending
+
+returns-4 : tie.Need-returns-4
+returns-4 c = search full-new
+
+returns-5 : tie.Need-returns-5
+returns-5 c = search full-full
+
+pub is-overfull-spec : {M : Type 1} → statement M
+is-overfull-spec =
+    tie.close
+    (tie.spec
+    enum-told
+    enum-told-2
+    enum-told-3
+    enum-told-4
+    enum-told-5
+    returns
+    returns-2
+    returns-3
+    returns-4
+    returns-5)
