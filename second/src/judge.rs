@@ -14,7 +14,7 @@ pub struct Kept {
     pub value: Canonical,
 }
 
-/// A message for which none of the reasons before 16 applies.
+/// A message for which none of the reasons applies that look at it alone: all but 16 and 18.
 #[derive(Clone, Debug)]
 pub struct Passed {
     pub start: Start,
@@ -48,7 +48,7 @@ pub fn found(reason: u64, detail: u64) -> Found {
     Found { reason, detail, missing: 0 }
 }
 
-/// Judges a message for a side by all reasons but 16.
+/// Judges a message for a side by all reasons but 16 and 18, which ask for the room and for the table.
 pub fn judge(message: &[u8], side: u64) -> Result<Passed, Refusal> {
     if side != 0 && side != 1 {
         return Err(silent(1));
@@ -79,6 +79,7 @@ pub fn refusal(found: Found, start: &Start) -> Refusal {
         14 => 420,
         15 => 484,
         16 => 500,
+        18 => 503,
         _ => 0,
     };
     Refusal { reason, reply, detail, missing }

@@ -5,11 +5,10 @@
 //! Standard library only. From the repository:
 //!
 //! - `cargo test --manifest-path second/Cargo.toml` runs its own tests and holds the stored cases to what it answers today.
-//! - `second screen [side] [room]` screens one message from standard input and prints what the page's screening program prints.
-//! - `second record` writes the recorded cases: for each the side (1 byte), the room and the length (2 bytes each, high byte first),
-//!   then the message.
-//! - `second cases` reads such cases and prints for each one line: reason, reply, detail, missing count, length, and the Adler-32 sum of
-//!   the whole buffer, which was filled with A5 (hex) before.
+//! - `second screen [side] [room]` screens one message from standard input, with no call held, and prints what the page's screening program
+//!   prints.
+//! - `second record` writes the recorded cases, `second cases` reads such cases and prints one line for each; `recorded::steps` says how both are
+//!   written.
 //! - `second isup-record` writes the recorded cases of the box for the old exchange (CR 7), `second isup-cases` reads such cases and prints one
 //!   line for each; `recorded::isup` says how both are written.
 //! - `second replay` reads records (CR 3) from standard input and prints the report that the replay program prints.
@@ -24,6 +23,7 @@
 //! `drafts` and `recorded` make messages; all other modules are the implementation.
 
 pub mod address;
+pub mod calls;
 pub mod causes;
 pub mod classes;
 pub mod drafts;
@@ -42,6 +42,7 @@ pub mod start;
 pub mod uri;
 pub mod values;
 
+pub use calls::{end_call, none_held, Table};
 pub use causes::{cause_of_status, status_of_cause};
 pub use readings::{calling_number, count, reading};
 
@@ -78,20 +79,29 @@ pub struct Part {
     pub length: usize,
 }
 
-/// "The job": accepts or refuses, and writes the outgoing message into the lent buffer.
-/// "No refusal writes to the buffer"; "Buffer bytes past the length stay".
-pub fn screen(message: &[u8], side: u64, out: &mut [u8]) -> Verdict {
-    let passed = match judge::judge(message, side) {
-        Ok(passed) => passed,
-        Err(refusal) => return Verdict::Refused(refusal),
-    };
-    let outgoing = output::message(&passed, side);
-    if outgoing.len() > out.len() {
-        let found = judge::found(16, outgoing.len() as u64);
-        return Verdict::Refused(judge::refusal(found, &passed.start));
+/// "The job": accepts or refuses, and writes the outgoing message into the lent buffer; the lent table is kept by CR 8.
+/// "No refusal writes to the buffer"; "Buffer bytes past the length stay"; "A refused request changes nothing."
+pub fn screen(message: &[u8], side: u64, table: &mut Table, out: &mut [u8]) -> Verdict {
+    match screened(message, side, table, out.len()) {
+        Ok((outgoing, after)) => {
+            out[..outgoing.len()].copy_from_slice(&outgoing);
+            *table = after;
+            Verdict::Accepted(outgoing.len())
+        }
+        Err(refusal) => Verdict::Refused(refusal),
     }
-    out[..outgoing.len()].copy_from_slice(&outgoing);
-    Verdict::Accepted(outgoing.len())
+}
+
+/// What goes out and the table afterwards. CR 8: "18 .. after 15, before 16".
+fn screened(message: &[u8], side: u64, table: &Table, room: usize) -> Result<(Vec<u8>, Table), Refusal> {
+    let passed = judge::judge(message, side)?;
+    let refused = |reason: u64, detail: u64| judge::refusal(judge::found(reason, detail), &passed.start);
+    let after = calls::after(&passed, side, table).ok_or_else(|| refused(18, 0))?;
+    let outgoing = output::message(&passed, calls::is_hidden(&passed, side, table));
+    if outgoing.len() > room {
+        return Err(refused(16, outgoing.len() as u64));
+    }
+    Ok((outgoing, after))
 }
 
 /// `reading` as a slice of the message.

@@ -13,10 +13,9 @@ use std::io::{self, Read, Write};
 use std::path::Path;
 use std::process::exit;
 
+use second::recorded::steps::{self, FILLING};
 use second::recorded::{self, history, isup, worked};
-use second::{causes, replay, screen, Verdict};
-
-const FILLING: u8 = 0xA5;
+use second::{causes, none_held, replay, screen};
 
 const USE: &str = "use: second screen [side] [room] | second record | second cases | second isup-record | second isup-cases \
     | second replay | second history [SEED [COUNT]] | second causes | second worked DIR";
@@ -26,9 +25,9 @@ fn main() {
     let done = match words.first().map(String::as_str) {
         Some("screen") => run_screen(&words[1..]),
         Some("record") => print(&recorded::file()),
-        Some("cases") => run_cases(),
+        Some("cases") => print_lines(steps::lines),
         Some("isup-record") => print(&isup::file()),
-        Some("isup-cases") => run_isup_cases(),
+        Some("isup-cases") => print_lines(isup::lines),
         Some("replay") => standard_input().and_then(|text| print(replay::report(&text).as_bytes())),
         Some("history") => run_history(&words[1..]),
         Some("causes") => standard_input().and_then(|input| print(causes::printed(&input).as_bytes())),
@@ -64,7 +63,7 @@ fn run_screen(words: &[String]) -> Result<(), String> {
     let room = number(words, 1, 9216)?;
     let message = standard_input()?;
     let mut buffer = vec![FILLING; room as usize];
-    let verdict = screen(&message, side, &mut buffer);
+    let verdict = screen(&message, side, &mut none_held(), &mut buffer);
     let [reason, reply, detail, missing, length] = verdict.numbers();
     let mut text = format!("{reason} {reply} {detail} {missing}\n").into_bytes();
     text.extend(&buffer[..length as usize]);
@@ -94,46 +93,8 @@ fn run_worked(folder: &Path) -> Result<(), String> {
     Ok(())
 }
 
-fn run_cases() -> Result<(), String> {
-    let file = standard_input()?;
-    let mut place = 0;
-    let mut out = io::BufWriter::new(io::stdout().lock());
-    while place < file.len() {
-        let (side, room, message, next) = one_case(&file, place).ok_or(format!("cut short at byte {place}"))?;
-        let line = case_line(side, room, message);
-        out.write_all(line.as_bytes()).map_err(|e| e.to_string())?;
-        place = next;
-    }
-    out.flush().map_err(|e| e.to_string())
-}
-
-fn run_isup_cases() -> Result<(), String> {
-    let lines = isup::lines(&standard_input()?).map_err(|place| format!("no case at byte {place}"))?;
+/// The lines of the file of cases on standard input.
+fn print_lines(lines: fn(&[u8]) -> Result<String, usize>) -> Result<(), String> {
+    let lines = lines(&standard_input()?).map_err(|place| format!("no case at byte {place}"))?;
     print(lines.as_bytes())
-}
-
-/// Side, room, message and the place of the next case.
-fn one_case(file: &[u8], place: usize) -> Option<(u64, usize, &[u8], usize)> {
-    let head = file.get(place..place + 5)?;
-    let room = usize::from(head[1]) * 256 + usize::from(head[2]);
-    let length = usize::from(head[3]) * 256 + usize::from(head[4]);
-    let message = file.get(place + 5..place + 5 + length)?;
-    Some((u64::from(head[0]), room, message, place + 5 + length))
-}
-
-fn case_line(side: u64, room: usize, message: &[u8]) -> String {
-    let mut buffer = vec![FILLING; room];
-    let verdict: Verdict = screen(message, side, &mut buffer);
-    let [reason, reply, detail, missing, length] = verdict.numbers();
-    format!("{reason} {reply} {detail} {missing} {length} {}\n", digest(&buffer))
-}
-
-/// Adler-32, as RFC 1950 has it.
-fn digest(bytes: &[u8]) -> u64 {
-    let (mut low, mut high) = (1, 0);
-    for &byte in bytes {
-        low = (low + u64::from(byte)) % 65521;
-        high = (high + low) % 65521;
-    }
-    high * 65536 + low
 }

@@ -5,12 +5,11 @@ use crate::judge::{Kept, Passed};
 use crate::profile;
 use crate::values;
 
-/// From's value up to the old tag, where the caller is withheld on side 1.
+/// From's value up to the old tag, where the caller is hidden.
 const ANONYMOUS: &[u8] = b"\"Anonymous\" <sip:anonymous@anonymous.invalid>;tag=";
 
 /// "Start line, then the fields not ignored in message order; then the empty line and the body."
-pub fn message(passed: &Passed, side: u64) -> Vec<u8> {
-    let hide = side == 1 && passed.is_withheld();
+pub fn message(passed: &Passed, hide: bool) -> Vec<u8> {
     let mut out = passed.start.written();
     out.extend(b"\r\n");
     for field in &passed.fields {

@@ -3,7 +3,7 @@
 //! The whole history is made first, one group and one reason for each record, and each number of the report is counted from it.
 
 use crate::classes::same_in_any_case;
-use crate::{lines, screen};
+use crate::{lines, none_held, screen, Table};
 use std::collections::BTreeSet;
 
 /// "before each record the two-byte mark 53 4E (hex)"
@@ -78,9 +78,9 @@ pub enum Group {
 /// The groups in the order of their lines, each with its line's first word.
 pub const GROUPS: [(Group, &str); 3] = [(Group::Relay, "relay"), (Group::Other, "other"), (Group::Unread, "unread")];
 
-/// The group of a message and its reason, 0 where it is accepted.
-pub fn judged(message: &[u8], side: u64) -> (Group, u64) {
-    let reason = screen(message, side, &mut [0; ROOM]).numbers()[0];
+/// The group of a message and its reason, 0 where it is accepted; the table is kept (CR 8).
+pub fn judged(message: &[u8], side: u64, table: &mut Table) -> (Group, u64) {
+    let reason = screen(message, side, table, &mut [0; ROOM]).numbers()[0];
     let group = match reason {
         1..=5 => Group::Unread,
         _ if has_relay_mode(message) => Group::Relay,
@@ -97,10 +97,11 @@ fn has_relay_mode(message: &[u8]) -> bool {
 /// What became of each record: its group and its reason, in the order of the records.
 pub type History = Vec<(Group, u64)>;
 
-/// The history of a text, and how the text ends.
+/// The history of a text, and how the text ends. CR 8: "A replay starts with none held."
 pub fn history(text: &[u8]) -> (History, u64) {
     let (records, end) = records(text);
-    (records.iter().map(|record| judged(record.message, u64::from(record.side))).collect(), end)
+    let mut table = none_held();
+    (records.iter().map(|record| judged(record.message, u64::from(record.side), &mut table)).collect(), end)
 }
 
 /// One line of the report in numbers: how many were accepted, and for each reason how many were refused with it, the reasons rising.

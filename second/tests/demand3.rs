@@ -1,5 +1,5 @@
 //! "What demand 3 compares": ignored fields added anywhere and names rewritten to another form or
-//! letter case change neither the numbers nor the buffer, where both messages keep within the sizes.
+//! letter case change neither the numbers, the buffer nor the table (CR 8), where both messages keep within the sizes.
 mod common;
 use common::*;
 
@@ -48,7 +48,7 @@ const VALUES: [(&str, &[&str]); 18] = [
     ("Max-Forwards", &["70", "1", "070", "0", "256", "\r\n 9"]),
     ("From", &["<sip:a@h>;tag=1", "sip:a@h ; TAG = z", "\"A\r\n B\" <tel:1>;tag=q", "<sip:a@h>"]),
     ("To", &["<sip:b@h>", "sip:b@h", "<sip:b@h>;tag=7", "<sip:b@h>;tag"]),
-    ("Call-ID", &["x@y", "q", "x y"]),
+    ("Call-ID", &["#@y", "#", "x y"]),
     ("CSeq", &["1 M", "007\tM", "1  M", "1\r\n M", "1 m"]),
     ("Contact", &["<sip:c>", "x", ""]),
     ("Content-Length", &["0", "000", "3", "003", "9", "x"]),
@@ -64,10 +64,13 @@ const VALUES: [(&str, &[&str]); 18] = [
     ("Record-Route", &["<sip:r>", "r", ""]),
 ];
 
-/// A value for the field: mostly one of the first two, which are good.
+/// A value for the field: mostly one of the first two, which are good. A Call-ID is often one of a few that come again, else one of so many that
+/// the table does not hold them all.
 fn value(dice: &mut Dice, list: &[&str], method: &str) -> String {
     let value = if dice.one_in(40) { *dice.pick(list) } else { list[dice.below(2.min(list.len()))] };
-    if value.ends_with('M') { value.replace('M', method) } else { value.to_string() }
+    let calls = if dice.one_in(2) { 4 } else { 400 };
+    let call = dice.below(calls);
+    if value.ends_with('M') { value.replace('M', method) } else { value.replace('#', &call.to_string()) }
 }
 
 fn random_fields(dice: &mut Dice, method: &str) -> Vec<Whole> {
@@ -140,11 +143,15 @@ fn change(dice: &mut Dice, fields: &[Whole], listed: &[&str]) -> Vec<Whole> {
     changed
 }
 
-/// Draws a message and a changed one for some rounds; how often each reason was met.
-fn compared(dice: &mut Dice, start_line: impl Fn(&mut Dice, &str) -> String, methods: &[&str]) -> [u32; 18] {
-    let mut seen = [0; 18];
-    for _ in 0..20_000 {
-        let method = *dice.pick(methods);
+/// Draws a message and a changed one for some rounds, both with the same table before; how often each reason was met, and how often the
+/// table decided. A history has 5,000 rounds from the first table, so that it is often full and often not.
+fn compared(dice: &mut Dice, start_line: impl Fn(&mut Dice, &str) -> String, first_table: Table) -> ([u32; 19], u32) {
+    let (mut seen, mut table, mut decided) = ([0; 19], first_table, 0);
+    for round in 0..20_000 {
+        if round % 5000 == 0 {
+            table = first_table;
+        }
+        let method = *dice.pick(&METHODS);
         let start = start_line(dice, method);
         let fields = random_fields(dice, method);
         let rest = dice.pick(&["", "", "abc", " \r\nX: y\r\n\r\n"]).as_bytes();
@@ -153,11 +160,15 @@ fn compared(dice: &mut Dice, start_line: impl Fn(&mut Dice, &str) -> String, met
         let other = joined(start.as_bytes(), &change(dice, &fields, listed), rest);
         let side = if dice.one_in(40) { 2 } else { dice.below(2) as u64 };
         let room = if dice.one_in(20) { 40 } else { 9216 };
-        let answer = run_in(&one, side, room);
-        assert_eq!(answer, run_in(&other, side, room), "{}\n{}", String::from_utf8_lossy(&one), String::from_utf8_lossy(&other));
+        let before = table;
+        let answer = run_with(&mut table, &one, side, room);
+        let mut other_table = before;
+        assert_eq!(answer, run_with(&mut other_table, &other, side, room), "{}\n{}", String::from_utf8_lossy(&one), String::from_utf8_lossy(&other));
+        assert!(table == other_table, "{}\n{}", String::from_utf8_lossy(&one), String::from_utf8_lossy(&other));
         seen[answer.0[0] as usize] += 1;
+        decided += u32::from(answer != run_in(&one, side, room));
     }
-    seen
+    (seen, decided)
 }
 
 /// The method of a request; for a response that of its first CSeq, or none that is known.
@@ -173,9 +184,10 @@ fn insertions_and_renamings_change_nothing_in_requests() {
         let uri = if dice.one_in(8) { *dice.pick(&["sip:h", "x:y", "*", "sip:1@h"]) } else { URI };
         format!("{method} {uri} SIP/2.0\r\n")
     };
-    let seen = compared(&mut Dice::new(3), start, &METHODS);
+    let (seen, decided) = compared(&mut Dice::new(3), start, none_held());
+    assert!(decided - seen[18] > 100, "{decided}");
     // The messages reach acceptance and every reason that well shaped lines within the sizes can have.
-    for reason in [0, 1, 6, 7, 8, 9, 10, 11, 12, 13, 14, 15, 16] {
+    for reason in [0, 1, 6, 7, 8, 9, 10, 11, 12, 13, 14, 15, 16, 18] {
         assert!(seen[reason] > 20, "reason {reason}: {seen:?}");
     }
 }
@@ -186,7 +198,13 @@ fn insertions_and_renamings_change_nothing_in_responses() {
         let status = if dice.one_in(2) { "200 OK" } else { *dice.pick(&STATUSES) };
         format!("SIP/2.0 {status}\r\n")
     };
-    let seen = compared(&mut Dice::new(4), start, &METHODS);
+    let mut table = none_held();
+    for call_id in ["0@y", "1@y", "2@y", "3@y", "0", "1", "2", "3"] {
+        let withheld = call_with("tag=a1\nt: <sip:+33123456789@gw.example>\ni: 9x@relay.example\n", &format!("tag=1\nt: sip:h\ni: {call_id}\n"));
+        assert_eq!(run_with(&mut table, &withheld, 1, 9216).0[0], 0);
+    }
+    let (seen, decided) = compared(&mut Dice::new(4), start, table);
+    assert_eq!(decided, 0, "no response asks for the table");
     for reason in [0, 1, 6, 9, 10, 11, 12, 16, 17] {
         assert!(seen[reason] > 20, "reason {reason}: {seen:?}");
     }

@@ -159,7 +159,7 @@ fn harmless_fields_and_names_change_nothing() {
 #[test]
 fn the_screens_own_refusals_come_first() {
     for case in second::recorded::cases().iter().filter(|case| case.message.len() < 2000).step_by(3) {
-        let numbers = screen(&case.message, 0, &mut [0; 4096]).numbers();
+        let numbers = screen(&case.message, 0, &mut none_held(), &mut [0; 4096]).numbers();
         for code in [&b"33"[..], b"0"] {
             match numbers[0] {
                 0 => assert!(parameter(&case.message, code, true).map_or_else(|refusal| refusal.reason > 40, |_| code == b"33")),

@@ -41,7 +41,7 @@ fn time(message: &[u8], rounds: usize) -> Duration {
     let mut buffer = vec![0; 9216];
     let begin = Instant::now();
     for _ in 0..rounds {
-        black_box(screen(black_box(message), 1, &mut buffer));
+        black_box(screen(black_box(message), 1, &mut none_held(), &mut buffer));
         black_box(calling_number(black_box(message), TRUNK));
         black_box(count(black_box(message), 3));
     }

@@ -42,12 +42,16 @@ fn digest(bytes: &[u8]) -> u64 {
     (1..=bytes.len()).map(low).sum::<u64>() % 65521 * 65536 + low(bytes.len())
 }
 
-fn recorded(side: u8, room: u16, message: &[u8]) -> Vec<u8> {
-    let mut out = vec![side];
-    out.extend(room.to_be_bytes());
-    out.extend((message.len() as u16).to_be_bytes());
-    out.extend(message);
-    out
+fn recorded(kind: u8, side: u8, room: u16, bytes: &[u8]) -> Vec<u8> {
+    [&[kind, side][..], &room.to_be_bytes(), &(bytes.len() as u16).to_be_bytes(), bytes].concat()
+}
+
+/// The page's call in the first place of a table: Call-ID `9x@relay.example` and tag `a1`.
+fn holding_the_call() -> Vec<u8> {
+    let mut table = vec![0; 6208];
+    table[..17].copy_from_slice(b"\x109x@relay.example");
+    table[129..132].copy_from_slice(b"\x02a1");
+    table
 }
 
 #[test]
@@ -55,17 +59,39 @@ fn cases_prints_a_line_for_each() {
     let good = run(&call(), 1).1;
     let mut buffer = good.clone();
     buffer.resize(9216, 0xA5);
-    let file = [recorded(1, 9216, &call()), recorded(0, 3, &call()), recorded(2, 0, b""), recorded(1, 1, &[0; 9000])].concat();
+    let file = [recorded(0, 1, 9216, &call()), recorded(0, 0, 3, &call()), recorded(0, 2, 0, b""), recorded(0, 1, 1, &[0; 9000])].concat();
     let need = run(&call(), 0).0[4];
+    let [none, one] = [digest(&[0; 6208]), digest(&holding_the_call())];
     let wanted = format!(
-        "0 0 0 0 {} {}\n16 500 {need} 0 0 {}\n1 0 0 0 0 1\n2 0 0 0 0 {}\n",
+        "0 0 0 0 {} {} {one}\n16 500 {need} 0 0 {} {none}\n1 0 0 0 0 1 {none}\n2 0 0 0 0 {} {none}\n",
         good.len(), digest(&buffer), digest(&[0xA5; 3]), digest(&[0xA5])
     );
     assert_eq!(program(&["cases"], &file), (Some(0), wanted.into_bytes()));
     assert_eq!(program(&["cases"], b""), (Some(0), Vec::new()));
-    // A file that is cut short says so after the whole cases.
+    // A file that is cut short, or has no such kind, table or end, is none.
     assert_eq!(program(&["cases"], &file[..file.len() - 1]).0, Some(2));
-    assert_eq!(program(&["cases"], &[1, 0, 0, 0]).0, Some(2));
+    assert_eq!(program(&["cases"], &[0, 1, 0, 0, 0]).0, Some(2));
+    for bad in [recorded(4, 0, 0, b""), recorded(2, 0, 0, &[0; 6209]), recorded(2, 1, 0, b""), recorded(2, 0, 1, b"x"), recorded(3, 0, 2, b"x"), recorded(3, 1, 1, b"xy")] {
+        assert_eq!(program(&["cases"], &[&file[..], &bad].concat()).0, Some(2));
+    }
+}
+
+#[test]
+fn cases_carry_the_table_on() {
+    let table = holding_the_call();
+    let [none, one] = [digest(&[0; 6208]), digest(&table)];
+    let texts = b"9x@relay.examplea1";
+    let short = run_in(&call(), 1, 9216).0[4];
+    let refused = |room: u16| format!("16 500 {short} 0 0 {}", digest(&vec![0xA5; usize::from(room)]));
+    for (steps, wanted) in [
+        (vec![recorded(2, 0, 0, &table)], format!("{one}\n")),
+        (vec![recorded(2, 0, 0, &table[..132]), recorded(3, 0, 16, texts), recorded(3, 0, 16, texts)], format!("{one}\n0 {none}\n19 {none}\n")),
+        (vec![recorded(2, 0, 0, &table), recorded(3, 0, 15, texts), recorded(1, 1, 0, &call())], format!("{one}\n19 {one}\n{} {one}\n", refused(0))),
+        (vec![recorded(2, 0, 0, &table), recorded(0, 1, 7, &call()), recorded(2, 0, 0, b"")], format!("{one}\n{} {none}\n{none}\n", refused(7))),
+        (vec![recorded(3, 0, 0, b""), recorded(1, 9, 0, b"")], format!("19 {none}\n1 0 0 0 0 1 {none}\n")),
+    ] {
+        assert_eq!(program(&["cases"], &steps.concat()), (Some(0), wanted.into_bytes()));
+    }
 }
 
 #[test]

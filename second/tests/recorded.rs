@@ -1,16 +1,16 @@
 //! The recorded cases reach what they are for, and the stored files of cases, of records and of causes are what `second` writes
 //! today.
-use second::recorded::{cases, file, Case, MOST, ROOM};
+use second::recorded::{cases, file, steps, Case, Step, MOST, ROOM};
 use second::start::Start;
 use second::profile::{self, Column};
-use second::{judge, lines, screen};
+use second::{judge, lines, none_held, screen};
 use std::collections::BTreeSet;
 use std::path::Path;
 use std::process::{Command, Stdio};
 
 fn answer(case: &Case) -> [u64; 5] {
     let mut buffer = vec![0xA5; usize::from(case.room)];
-    screen(&case.message, u64::from(case.side), &mut buffer).numbers()
+    screen(&case.message, u64::from(case.side), &mut none_held(), &mut buffer).numbers()
 }
 
 /// The details seen with a reason.
@@ -76,7 +76,7 @@ fn every_reason_and_detail_of_responses_is_there() {
 /// The Privacy tokens of an INVITE that is accepted on side 1, in small letters, and whether From goes out anonymous.
 fn asked_and_masked(case: &Case) -> Option<(Vec<String>, bool)> {
     let mut buffer = vec![0; usize::from(case.room)];
-    let [reason, .., length] = screen(&case.message, u64::from(case.side), &mut buffer).numbers();
+    let [reason, .., length] = screen(&case.message, u64::from(case.side), &mut none_held(), &mut buffer).numbers();
     let text = String::from_utf8_lossy(&buffer[..length as usize]);
     let text = text.split("\r\n\r\n").next()?;
     let value = text.split("\r\nPrivacy: ").nth(1)?.split("\r\n").next()?.to_ascii_lowercase();
@@ -106,8 +106,43 @@ fn every_way_to_hide_is_there() {
 }
 
 #[test]
+fn every_step_is_read_again_and_every_kind_is_there() {
+    let (file, all) = (file(), steps());
+    let mut rest = &file[..];
+    let mut kinds = [0; 4];
+    for step in &all {
+        kinds[usize::from(rest[0])] += 1;
+        let (again, next) = Step::read(rest).expect("a step");
+        assert_eq!(&again, step);
+        rest = next;
+    }
+    assert!(rest.is_empty());
+    assert!(kinds[0] > cases().len() + 100 && kinds[1..].iter().all(|&many| many >= 700), "{kinds:?}");
+    assert!(all[..cases().len()].iter().zip(cases()).all(|(step, case)| *step == Step::Fresh(case)));
+}
+
+/// The histories (CR 8) meet a full table, hide by the table alone, and end pairs that are held and others.
+#[test]
+fn every_answer_of_a_history_is_there() {
+    let (mut table, mut full, mut hidden, mut ends) = (none_held(), 0, 0, [0; 2]);
+    for step in &steps()[cases().len()..] {
+        let before = table;
+        let line = step.line(&mut table);
+        match step {
+            Step::Table(_) => {}
+            Step::End { .. } => ends[usize::from(line.starts_with("19 "))] += 1,
+            Step::Fresh(case) | Step::Next(case) => {
+                full += usize::from(line.starts_with("18 503 0 0 0 "));
+                hidden += usize::from(line.starts_with("0 ") && line.split(' ').nth(4) != Step::Fresh(case.clone()).line(&mut before.clone()).split(' ').nth(4));
+            }
+        }
+    }
+    assert!(full >= 100 && hidden >= 200 && ends[0] >= 300 && ends[1] >= 300, "{full} {hidden} {ends:?}");
+}
+
+#[test]
 fn the_program_of_the_gate_reads_them_all() {
-    assert!(cases().len() <= 65_536);
+    assert!(steps().len() <= 65_536);
 }
 
 #[test]

@@ -3,8 +3,13 @@ mod common;
 use common::*;
 use second::drafts::{Draft, Whole};
 use second::recorded::history::{drawn_file, fixed_file, record};
-use second::replay::{judged, records, report, Group, Line, MOST_RECORDS};
+use second::replay::{self, history, records, report, Group, Line, MOST_RECORDS};
 use std::collections::BTreeSet;
+
+/// The group and the reason of a message with none held before.
+fn judged(message: &[u8], side: u64) -> (Group, u64) {
+    replay::judged(message, side, &mut none_held())
+}
 
 const NOTHING: &str = "relay 0 0 0\nother 0 0 0\nunread 0 0 0\n";
 
@@ -44,7 +49,7 @@ fn numbers_of(text: &str) -> ([Numbers; 3], u64, u64) {
         assert_eq!(one.rate, if one.came == 0 { 0 } else { refused * 10_000 / one.came }, "{text}");
         assert!(one.pairs.windows(2).all(|two| two[0].0 < two[1].0) && one.pairs.iter().all(|pair| pair.1 > 0), "{text}");
     }
-    let allowed = |one: &Numbers, least: u64| one.pairs.iter().all(|pair| pair.0 >= least && ![0, 16].contains(&pair.0) && pair.0 <= 17);
+    let allowed = |one: &Numbers, least: u64| one.pairs.iter().all(|pair| pair.0 >= least && ![0, 16].contains(&pair.0) && pair.0 <= 18);
     assert!(allowed(&three[0], 6) && allowed(&three[1], 6) && three[2].accepted == 0 && three[2].pairs.iter().all(|pair| (1..=5).contains(&pair.0)), "{text}");
     assert_eq!(three.iter().map(|one| one.came).sum::<u64>(), read, "{text}");
     (three, read, end)
@@ -318,12 +323,46 @@ fn reasons_rise_by_number() {
     assert_eq!(report(&[unread, file, relay].concat()), format!("relay 78 12 8461 {pairs}\nother 78 12 8461 {pairs}\nunread 3 0 10000 1=1 3=2\nend 159 0\n"));
 }
 
+/// Where no pair meets 32 held ones (CR 8), each record is counted by itself.
 #[test]
 fn the_order_of_the_records_does_not_matter() {
     let [relay, other, unread] = one_of_each().map(|message| record(1, &message));
     let wanted = "relay 2 2 0\nother 1 1 0\nunread 3 0 10000 3=3\nend 6 0\n";
     assert_eq!(report(&[&unread[..], &relay, &unread, &other, &relay, &unread].concat()), wanted);
     assert_eq!(report(&[&relay[..], &relay, &other, &unread, &unread, &unread].concat()), wanted);
+}
+
+/// A withheld INVITE of the call with this number.
+fn hidden(number: usize) -> Vec<u8> {
+    call_with("9x@relay.example", &format!("{number}@relay.example"))
+}
+
+/// CR 8: "A replay starts with none held", and the table goes from record to record.
+#[test]
+fn the_33rd_hidden_call_is_counted() {
+    let calls: Vec<Vec<u8>> = (0..33).map(hidden).collect();
+    let line = |came: u64, accepted: u64, more: &str| format!("relay {came} {accepted} {}{more}\nother 0 0 0\nunread 0 0 0\nend {came} 0\n", (came - accepted) * 10_000 / came);
+    assert_eq!(report(&recorded(&calls[..32])), line(32, 32, ""));
+    assert_eq!(report(&recorded(&calls)), line(33, 32, " 18=1"));
+    // To side 0 none is held; the same calls again are held already, and the 33rd is refused again.
+    let trusted: Vec<u8> = calls.iter().flat_map(|message| record(0, message)).collect();
+    assert_eq!(report(&trusted), line(33, 33, ""));
+    assert_eq!(report(&[trusted, recorded(&calls), recorded(&calls)].concat()), line(99, 97, " 18=2"));
+    // The next replay knows nothing of the one before.
+    assert_eq!(report(&recorded(&calls[32..])), line(1, 1, ""));
+}
+
+#[test]
+fn a_bye_makes_room_for_the_33rd() {
+    let (calls, last) = (recorded(&(0..32).map(hidden).collect::<Vec<_>>()), record(1, &hidden(32)));
+    let bye = |tag: &str| Draft::least(3).with(5, b"5@relay.example").with(3, format!("<sip:h>;tag={tag}").as_bytes()).and("X-Relay-Mode", b"");
+    let with = |side: u8, draft: Draft| report(&[&calls[..], &record(side, &draft.bytes()), &last].concat());
+    let counted = |accepted: u64, more: &str| format!("relay 34 {accepted} {}{more}\nother 0 0 0\nunread 0 0 0\nend 34 0\n", (34 - accepted) * 10_000 / 34);
+    assert_eq!(with(1, bye("a1")), counted(34, ""));
+    assert_eq!(with(0, bye("a1")), counted(33, " 18=1"));
+    assert_eq!(with(1, bye("A1")), counted(33, " 18=1"));
+    assert_eq!(with(1, bye("a1").with(14, b"x")), counted(32, " 14=1 18=1"));
+    assert_eq!(with(1, bye("a1").without(2).status("200", b"OK")), counted(33, " 18=1"));
 }
 
 #[test]
@@ -352,18 +391,15 @@ fn a_million_records_and_what_comes_after() {
 fn the_fixed_records_have_it_all() {
     let file = fixed_file();
     let (found, end) = records(&file);
-    assert!(end == 32 && (30..=60).contains(&found.len()) && file.len() < 60_000);
-    let seen: BTreeSet<(bool, bool, u64)> = found
-        .iter()
-        .map(|record| judged(record.message, u64::from(record.side)))
-        .map(|(group, reason)| (group == Group::Relay, group == Group::Unread, reason))
-        .collect();
-    for reason in [0, 6, 7, 8, 9, 10, 11, 12, 13, 14, 15, 17] {
+    assert!(end == 32 && (60..=110).contains(&found.len()) && file.len() < 60_000);
+    let (history, _) = history(&file);
+    let seen: BTreeSet<(bool, bool, u64)> = history.iter().map(|(group, reason)| (*group == Group::Relay, *group == Group::Unread, *reason)).collect();
+    for reason in [0, 6, 7, 8, 9, 10, 11, 12, 13, 14, 15, 17, 18] {
         assert!(seen.contains(&(true, false, reason)) && seen.contains(&(false, false, reason)), "{reason}");
     }
     assert!((1..=5).all(|reason| seen.contains(&(false, true, reason))));
     for side in [0, 1] {
-        assert!(found.iter().filter(|record| record.side == side && judged(record.message, u64::from(side)).1 == 0).count() >= 10);
+        assert!(found.iter().zip(&history).filter(|(record, one)| record.side == side && one.1 == 0).count() >= 10);
     }
     assert!([0, 8192, 8193].iter().all(|&length| found.iter().any(|record| record.message.len() == length)));
     assert!(found.iter().filter(|record| record.message.starts_with(b"SIP/2.0 ")).count() >= 8);
@@ -376,7 +412,7 @@ fn drawn_records_have_it_all() {
         let (lines, read, end) = numbers_of(&report(&file));
         assert_eq!(read, 300 + records(&fixed_file()).0.len() as u64);
         let reasons: BTreeSet<u64> = lines.iter().flat_map(|line| line.pairs.iter().map(|pair| pair.0)).collect();
-        assert!(reasons.len() == 16 && lines[0].came > 40 && lines[1].came > 100 && lines[2].came > 40, "{lines:?}");
+        assert!(reasons.len() == 17 && lines[0].came > 40 && lines[1].came > 100 && lines[2].came > 40, "{lines:?}");
         assert_eq!(end, 32 - seed % 2);
     }
     assert!(drawn_file(1, 300) == drawn_file(1, 300) && drawn_file(1, 300) != drawn_file(2, 300));

@@ -2,7 +2,7 @@
 //! of second/reviewed/causes.txt.
 use second::causes::Answer;
 use second::recorded::reviewed::{calls, files, Reviewed};
-use second::{screen, status_of_cause};
+use second::{none_held, screen, status_of_cause};
 use std::collections::BTreeSet;
 
 const FILLING: u8 = 0xA5;
@@ -12,7 +12,7 @@ const CAUSES: &str = include_str!("../reviewed/causes.txt");
 fn every_call_is_answered_as_written() {
     for call in calls() {
         let mut buffer = vec![FILLING; usize::from(call.case.room)];
-        let numbers = screen(&call.case.message, u64::from(call.case.side), &mut buffer).numbers();
+        let numbers = screen(&call.case.message, u64::from(call.case.side), &mut none_held(), &mut buffer).numbers();
         assert_eq!(numbers, call.answer, "{}", call.name);
         assert_eq!(call.output.len() as u64, call.answer[4], "{}", call.name);
         let mut written = call.output.clone();

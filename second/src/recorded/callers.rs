@@ -3,9 +3,8 @@
 //! refusal that such two can have. Since CR 6 the identities may differ in number, order and scheme too, with their fields at equal places.
 
 use super::sizes::filled;
-use super::{Case, ROOM};
+use super::{length_out, Case, ROOM};
 use crate::drafts::{Draft, Whole};
-use crate::screen;
 
 /// From with the tag q7.
 const FROMS: [&str; 20] = [
@@ -67,7 +66,7 @@ pub fn pairs() -> Vec<[Vec<u8>; 2]> {
 
 /// Both messages with the room of the program, with as many bytes as go out, and with one less.
 fn tight(pair: [Vec<u8>; 2]) -> Vec<Case> {
-    let need = screen(&pair[0], 1, &mut vec![0; usize::from(ROOM)]).numbers()[4] as u16;
+    let need = length_out(&pair[0], 1);
     let rooms = [ROOM, need, need - 1];
     rooms.into_iter().flat_map(|room| pair.clone().map(|message| Case { side: 1, room, message })).collect()
 }

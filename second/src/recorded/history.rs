@@ -1,7 +1,9 @@
 //! Files of records for the replay (CR 3). `second history` writes the fixed one, which `second/regenerate` stores in crates/replay: every
-//! line of the report, every reason that a replay can meet in each line where it can stand, and a record cut short at the end.
+//! line of the report, every reason that a replay can meet in each line where it can stand, withheld calls and their BYEs (CR 8), and a record
+//! cut short at the end.
 //! `second history SEED [COUNT]` strews drawn records among those, from the recorded cases and anew.
 
+use super::calls::{of_call, of_some_call, withheld, ACK, BYE};
 use super::sizes::filled;
 use super::strewn::{damage, strewn};
 use super::{Case, MOST};
@@ -50,7 +52,7 @@ pub fn drawn_file(seed: u64, count: usize) -> Vec<u8> {
 
 /// All records but the last of the fixed file.
 fn fixed() -> Vec<Pair> {
-    [relay(), near(), refused(), unread(), sides()].concat()
+    [relay(), near(), refused(), unread(), sides(), hidden()].concat()
 }
 
 /// On each side in turn.
@@ -139,6 +141,21 @@ fn sides() -> Vec<Pair> {
     ]
 }
 
+/// Withheld calls to side 1 (CR 8), 31 beside the page's, which the relay callers above have opened, and one more. An ACK, a BYE to side 0 and a
+/// refused one make no room for it; two other BYEs do, for it and for another.
+fn hidden() -> Vec<Pair> {
+    let call = |number: usize| withheld(&format!("{number}@hidden"), "h1");
+    let by_both = |number: usize| [(1, call(number).bytes()), (1, relayed(&call(number)).bytes())];
+    let (ack, bye) = (of_call(ACK, "3@hidden", "h1"), of_call(BYE, "3@hidden", "h1"));
+    let mut all: Vec<Pair> = (0..31).map(|number| (1, call(number).bytes())).collect();
+    all.extend(by_both(31));
+    all.extend([(1, ack.bytes()), (0, bye.bytes()), (1, bye.with(2, b"0").bytes())]);
+    all.extend(by_both(31));
+    all.extend([(1, relayed(&bye).bytes()), (1, of_call(BYE, "9x@relay.example", "a1").bytes())]);
+    all.extend([by_both(31), by_both(32), by_both(33)].concat());
+    all
+}
+
 /// Lines that bring the field, and lines that nearly do.
 const LINES: [&str; 16] = [
     "X-Relay-Mode: text\r\n", "X-Relay-Mode:\r\n", "X-Relay-Mode \t:x\r\n", "X-Relay-Mode:\r\n x\r\n", "X-Relay-Mode: a\r\nX-Relay-Mode: b\r\n", "X-Relay-Mode-2: text\r\n",
@@ -146,13 +163,16 @@ const LINES: [&str; 16] = [
     "X-Relay-Mode text\r\n", "X-Relay-Mode\r\n : text\r\n", "\r\nX-Relay-Mode: text\r\n", "X-Relay-Mode: \u{7f}\r\n",
 ];
 
-/// A recorded case or a message put together anew, maybe with one of those lines, maybe on an odd side, seldom far too long.
+/// A recorded case, a message put together anew or one of a call that may be hidden, maybe with one of those lines, maybe on an odd side,
+/// seldom far too long.
 fn drawn(dice: &mut Dice, recorded: &[Case]) -> Pair {
-    let (side, mut message) = if dice.one_in(2) {
-        let case = dice.pick(recorded);
-        (case.side, case.message.clone())
-    } else {
-        (dice.below(2) as u8, put_together(dice))
+    let (side, mut message) = match dice.below(4) {
+        0 => (dice.below(2) as u8, put_together(dice)),
+        1 => (u8::from(!dice.one_in(8)), of_some_call(dice).bytes()),
+        _ => {
+            let case = dice.pick(recorded);
+            (case.side, case.message.clone())
+        }
     };
     if dice.one_in(2) {
         put_line(dice, &mut message);

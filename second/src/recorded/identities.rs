@@ -2,9 +2,8 @@
 //! a third one, two of one scheme, empty members and whatever else is malformed, in one field and over several; which field brings it, beside
 //! other faults; on both sides, withheld and not; and where P-Asserted-Identity is ignored.
 
-use super::{Case, ROOM};
+use super::{length_out, Case};
 use crate::drafts::{Draft, Whole, REQUESTS, RESPONSES};
-use crate::screen;
 
 /// What {s} and {t} stand for below.
 const SIP: &str = "<sip:+331876543@a>";
@@ -206,7 +205,7 @@ fn rooms() -> Vec<Case> {
     let mut all = Vec::new();
     for list in [written(&["{s}", "{t}"]), written(&["{t} ,\t{s}"]), written(&["{t}\r\n ,\r\n {s}"])] {
         for case in shown_and_hidden(&initial(&list)) {
-            let need = screen(&case.message, u64::from(case.side), &mut vec![0; usize::from(ROOM)]).numbers()[4] as u16;
+            let need = length_out(&case.message, case.side);
             all.extend([need, need - 1].map(|room| Case { room, ..case.clone() }));
         }
     }

@@ -1,11 +1,12 @@
 //! The recorded cases: messages for every rule of the page and of the change requests on both sides of its edge.
 //!
-//! `second record` writes them, `second cases` says their answers. A case is one byte for the side, two bytes for the room and two for
-//! the length of the message (high byte first), then the message. `second/regenerate` stores both in crates/vectors of the repository.
-//! Those of the box for the old exchange (CR 7) are other ones: see `isup`.
+//! `second record` writes them, `second cases` says their answers; `steps` says how both are written, and `second/regenerate` stores both in
+//! crates/vectors of the repository. First come messages that are each screened with none held, then the histories of `calls` (CR 8). Those of
+//! the box for the old exchange (CR 7) are other ones: see `isup`.
 
 pub mod callers;
 pub mod calling;
+pub mod calls;
 mod columns;
 mod edges;
 pub mod history;
@@ -17,8 +18,12 @@ mod privacy;
 mod responses;
 pub mod reviewed;
 mod sizes;
+pub mod steps;
 mod strewn;
 pub mod worked;
+
+use crate::{none_held, screen};
+pub use steps::Step;
 
 /// The room of the page's screening program, and the most that a case has.
 pub const ROOM: u16 = 9216;
@@ -26,7 +31,8 @@ pub const ROOM: u16 = 9216;
 /// The longest recorded message: one byte more than a message may have.
 pub const MOST: usize = 8193;
 
-#[derive(Clone, Debug, PartialEq)]
+/// A message with its side and room.
+#[derive(Clone, Debug, PartialEq, Eq, Hash)]
 pub struct Case {
     pub side: u8,
     pub room: u16,
@@ -37,37 +43,34 @@ impl Case {
     fn new(side: u8, message: Vec<u8>) -> Case {
         Case { side, room: ROOM, message }
     }
-
-    pub fn encoded(&self) -> Vec<u8> {
-        let mut out = vec![self.side];
-        out.extend(self.room.to_be_bytes());
-        out.extend((self.message.len() as u16).to_be_bytes());
-        out.extend(&self.message);
-        out
-    }
 }
 
-/// All cases in their order, each once.
+/// All messages that are screened with none held before, in their order, each once.
 pub fn cases() -> Vec<Case> {
-    let mut all: Vec<Case> = Vec::new();
     let mut seen = std::collections::HashSet::new();
     let from_others = [outside::cases(), outside_responses::cases(), reviewed::cases()];
     let own = [columns::cases(), edges::cases(), sizes::cases(), strewn::cases(), responses::cases()];
     let of_callers = [privacy::cases(), callers::cases(), identities::cases()];
-    for group in from_others.into_iter().chain(own).chain(of_callers) {
-        for case in group {
-            assert!(case.message.len() <= MOST && case.room <= ROOM, "a recorded case is too long");
-            if seen.insert(case.encoded()) {
-                all.push(case);
-            }
-        }
-    }
+    let mut all: Vec<Case> = from_others.into_iter().chain(own).chain(of_callers).flatten().collect();
+    all.retain(|case| seen.insert(case.clone()));
+    all
+}
+
+/// Those messages, and the histories of calls.
+pub fn steps() -> Vec<Step> {
+    let all: Vec<Step> = cases().into_iter().map(Step::Fresh).chain(calls::steps()).collect();
+    assert!(all.iter().all(Step::keeps_to_its_sizes), "a recorded case is too long");
     all
 }
 
 /// The file of recorded cases.
 pub fn file() -> Vec<u8> {
-    cases().iter().flat_map(Case::encoded).collect()
+    steps().iter().flat_map(Step::encoded).collect()
+}
+
+/// The bytes that go out for a message with none held and room enough.
+fn length_out(message: &[u8], side: u8) -> u16 {
+    screen(message, u64::from(side), &mut none_held(), &mut [0; ROOM as usize]).numbers()[4] as u16
 }
 
 /// Both sides of each message.

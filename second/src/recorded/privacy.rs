@@ -2,9 +2,8 @@
 //! in a list, what only looks like them, malformed and doubled values, every form of From and of an identity, tight rooms, and where Privacy
 //! is ignored.
 
-use super::{both_sides, untrusted, Case};
+use super::{both_sides, length_out, untrusted, Case};
 use crate::drafts::{Draft, Whole, REQUESTS, RESPONSES};
-use crate::screen;
 
 const WAYS: [&str; 3] = ["header", "user", "id"];
 
@@ -274,7 +273,7 @@ fn rooms() -> Vec<Case> {
 }
 
 fn tight(message: Vec<u8>) -> Vec<Case> {
-    let needs = [0, 1].map(|side| screen(&message, side, &mut [0; 1024]).numbers()[4] as u16);
+    let needs = [0, 1].map(|side| length_out(&message, side));
     let rooms = needs.into_iter().flat_map(|need| [need, need - 1]);
     rooms.flat_map(|room| [0, 1].map(|side| Case { side, room, message: message.clone() })).collect()
 }

@@ -48,13 +48,13 @@ fn call(paragraph: &str) -> Reviewed {
     call
 }
 
-fn side_and_room(line: &str) -> (u8, u16) {
+pub(super) fn side_and_room(line: &str) -> (u8, u16) {
     let words: Vec<&str> = line.split(' ').collect();
     assert!(words.len() == 4 && words[0] == "side" && words[2] == "room", "{line}");
     (words[1].parse().expect("a side"), words[3].parse().expect("a room"))
 }
 
-fn five(numbers: &str) -> [u64; 5] {
+pub(super) fn five(numbers: &str) -> [u64; 5] {
     let all: Vec<u64> = numbers.split_whitespace().map(|word| word.parse().expect("a number")).collect();
     all.try_into().expect("five numbers")
 }

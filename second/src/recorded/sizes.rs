@@ -1,8 +1,7 @@
 //! Sizes: 96 and 97 fields, 8,192 and 8,193 bytes, the room one byte short and exact, and the longest outputs.
 
-use super::{Case, ROOM};
+use super::{length_out, Case, ROOM};
 use crate::drafts::{call, Draft, Whole};
-use crate::screen;
 
 pub fn cases() -> Vec<Case> {
     let mut all = Vec::new();
@@ -104,8 +103,7 @@ fn rooms() -> Vec<Case> {
 pub fn room_edges(message: Vec<u8>) -> Vec<Case> {
     let mut all = Vec::new();
     for side in [0, 1] {
-        let mut buffer = vec![0; usize::from(ROOM)];
-        let need = screen(&message, u64::from(side), &mut buffer).numbers()[4] as u16;
+        let need = length_out(&message, side);
         let rooms = [need, need.saturating_sub(1), need.saturating_add(1).min(ROOM), 0, 1, need / 2];
         for &room in &rooms[..if need > 5000 { 2 } else { 6 }] {
             all.push(Case { side, room, message: message.clone() });

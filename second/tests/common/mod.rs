@@ -2,6 +2,7 @@
 #![allow(dead_code, unused_imports)]
 
 pub use second::drafts::{call, call_with, with_crlf as crlf, Dice};
+pub use second::{none_held, Table};
 use second::{screen, Verdict};
 
 pub type Fields = Vec<(String, Vec<u8>)>;
@@ -100,15 +101,23 @@ pub fn run(message: &[u8], side: u64) -> ([u64; 5], Vec<u8>) {
     run_in(message, side, 9216)
 }
 
+/// The same with so much room and none held.
 pub fn run_in(message: &[u8], side: u64, room: usize) -> ([u64; 5], Vec<u8>) {
+    run_with(&mut none_held(), message, side, room)
+}
+
+/// The same with this table before; checks that no refusal and nothing on side 0 changes it.
+pub fn run_with(table: &mut Table, message: &[u8], side: u64, room: usize) -> ([u64; 5], Vec<u8>) {
     let mut buffer = vec![0xA5; room];
-    let verdict = screen(message, side, &mut buffer);
+    let before = *table;
+    let verdict = screen(message, side, table, &mut buffer);
     let numbers = verdict.numbers();
     let length = match verdict {
         Verdict::Accepted(length) => length,
         Verdict::Refused(_) => 0,
     };
     assert!(buffer[length..].iter().all(|&byte| byte == 0xA5), "bytes past the length stay");
+    assert!(*table == before || (side == 1 && numbers[0] == 0), "a refusal and side 0 leave the table");
     (numbers, buffer[..length].to_vec())
 }
 

@@ -2,22 +2,29 @@
 
 use crate::callers::Callers;
 use crate::counts::{Call, Counts, Kind, Met};
-use crate::differences::{escaped, same, same_bytes, within};
+use crate::differences::{escaped, same, within};
 use crate::guarded::{Against, Guarded};
 use crate::identities::Asserted;
 use crate::isup::Isup;
+use crate::outgoing::{identity_lines, is_masked};
 use crate::privacy::Asked;
+use crate::remembered::{ill_formed, pair_of, Remembered, Screened};
 use crate::replay::Replay;
+use crate::screening::{Answer, Lent, Screening, ROOM};
 use crate::watch::NOW;
-use crate::{causes, library, messages};
+use crate::{causes, histories, library, messages};
+use second::calls::{Pair, PLACES};
 use second::drafts::{Dice, Draft};
+use second::recorded::{Case, Step};
 use second::start::Start;
+use second::{none_held, Table};
 
 const MOST_MESSAGE: usize = 70_000;
-const MOST_ROOM: usize = 12_288;
 const MOST_TRUNK: usize = 64;
 const FIELDS: [u64; 24] = [0, 1, 2, 3, 4, 5, 6, 7, 8, 9, 10, 11, 12, 13, 14, 15, 16, 17, 18, 19, 20, 255, 256 + 3, u64::MAX];
 const TRUNK: &[u8] = b"+33999999999";
+/// A history comes after so many messages on average.
+const OF_A_HISTORY: usize = 64;
 /// At and beside multiples of 16.
 const LENGTHS: [usize; 13] = [1, 15, 16, 17, 31, 32, 33, 47, 48, 49, 63, 64, 65];
 
@@ -25,30 +32,21 @@ const LENGTHS: [usize; 13] = [1, 15, 16, 17, 31, 32, 33, 47, 48, 49, 63, 64, 65]
 pub struct Bench {
     message: Guarded,
     trunk: Guarded,
-    out: Guarded,
+    screening: Screening,
     replay: Replay,
     isup: Isup,
     pub counts: Counts,
 }
 
-/// One call of `screen`: what goes in beside the message.
-#[derive(Clone, Copy, Debug)]
-struct Lent {
-    side: u64,
-    room: usize,
-    filling: u8,
-    against: Against,
-}
-
 impl Bench {
     pub fn new() -> Bench {
-        let [message, trunk, out] = [MOST_MESSAGE, MOST_TRUNK, MOST_ROOM].map(Guarded::new);
-        Bench { message, trunk, out, replay: Replay::new(), isup: Isup::new(), counts: Counts::new() }
+        let [message, trunk] = [MOST_MESSAGE, MOST_TRUNK].map(Guarded::new);
+        Bench { message, trunk, screening: Screening::new(), replay: Replay::new(), isup: Isup::new(), counts: Counts::new() }
     }
 
     /// All that is not drawn.
     pub fn fixed(&mut self) {
-        same("screen", &library::with_null_pointers(), &second::screen(&[], 1, &mut []).numbers(), &[], "null pointers");
+        same("screen", &library::with_null_pointers(), &second::screen(&[], 1, &mut none_held(), &mut []).numbers(), &[], "null pointers");
         causes::fixed(&mut self.counts);
         self.recorded();
         self.reviewed_callings();
@@ -62,17 +60,38 @@ impl Bench {
 
     /// The recorded cases, each against the end and the start of the pages.
     fn recorded(&mut self) {
-        for case in second::recorded::cases() {
-            for against in [Against::End, Against::Start] {
-                let lent = Lent { side: u64::from(case.side), room: usize::from(case.room), filling: 0xA5, against };
-                self.screen(&case.message, lent);
-                self.counts.call(Call::Recorded);
-                self.calling_with(&case.message, TRUNK, against);
-                for (field, place) in [(6, 1), (15, 1), (15, 2)] {
-                    self.count(&case.message, against, field);
-                    self.reading(&case.message, against, field, place);
+        let steps = second::recorded::steps();
+        for (against, step) in [Against::End, Against::Start].into_iter().flat_map(|against| steps.iter().map(move |step| (against, step))) {
+            self.counts.call(Call::Recorded);
+            match step {
+                Step::Fresh(case) => {
+                    self.screening.start(&none_held(), against);
+                    self.recorded_case(case, against);
+                    self.read_recorded(&case.message, against);
+                }
+                Step::Next(case) => self.recorded_case(case, against),
+                Step::Table(bytes) => {
+                    let mut table = none_held();
+                    table[..bytes.len()].copy_from_slice(bytes);
+                    self.screening.start(&table, against);
+                }
+                Step::End { call_id, tag } => {
+                    self.screening.end(&mut self.counts, &Pair::new(call_id, tag), against);
                 }
             }
+        }
+    }
+
+    fn recorded_case(&mut self, case: &Case, against: Against) {
+        let lent = Lent { side: u64::from(case.side), room: usize::from(case.room), filling: 0xA5, against };
+        self.screening.next(&mut self.counts, &case.message, lent);
+    }
+
+    fn read_recorded(&mut self, message: &[u8], against: Against) {
+        self.calling_with(message, TRUNK, against);
+        for (field, place) in [(6, 1), (15, 1), (15, 2)] {
+            self.count(message, against, field);
+            self.reading(message, against, field, place);
         }
     }
 
@@ -107,7 +126,8 @@ impl Bench {
 
     fn odd(&mut self, message: &[u8], place: usize, field: u64) {
         self.counts.call(Call::OddByte);
-        self.screen(message, Lent { side: place as u64 % 2, room: 9216, filling: 0x5A, against: Against::End });
+        let lent = Lent { side: place as u64 % 2, room: ROOM, filling: 0x5A, against: Against::End };
+        self.screening.alone(&mut self.counts, message, lent, &none_held());
         self.reading(message, Against::End, field, 1);
         self.calling_with(message, TRUNK, Against::End);
     }
@@ -116,24 +136,58 @@ impl Bench {
     pub fn one(&mut self, dice: &mut Dice) {
         let draft = messages::draft(dice);
         let (kind, message) = self.drawn(dice, &draft);
-        let lent = self.lent(dice, &message);
-        let numbers = self.screen(&message, lent);
-        self.counts.reason(kind, numbers[0], &message);
-        match numbers {
-            [0, ..] => self.accepted(&message, lent),
-            [9, _, 16, ..] => self.counts.met(Met::DoubledPrivacy, true),
-            [10, _, 16, ..] => self.counts.met(Met::MalformedPrivacy, Asked::of(&message).is_some_and(|asked| asked.mentions())),
-            _ => {}
-        }
-        self.asserted(&message, lent, numbers);
+        let table = messages::before(dice, &message);
+        let lent = lent(dice, &message, &table);
+        let answer = self.screening.alone(&mut self.counts, &message, lent, &table);
+        self.counts.reason(kind, answer.numbers[0], &message);
+        self.count_answer(&message, lent, &table, &answer);
         self.readings(dice, &message, lent.against);
         self.calling(dice, &message, lent.against);
-        self.replay.one(&mut self.counts, dice, &message, lent.side, lent.against);
+        self.replay.one(&mut self.counts, dice, &message, lent, &table);
         self.isup.one(&mut self.counts, dice, &message, lent.against);
         causes::one(&mut self.counts, dice);
         if dice.one_in(12) {
             self.two_callers(dice);
         }
+        if dice.one_in(OF_A_HISTORY) {
+            let messages = histories::one(&mut self.counts, &mut self.screening, dice);
+            if dice.one_in(2) {
+                self.replay.history(&mut self.counts, dice, &messages, lent.against);
+            }
+        }
+    }
+
+    /// Counts what the answer to a drawn message shows, and holds it to CR 8 itself.
+    fn count_answer(&mut self, message: &[u8], lent: Lent, table: &Table, answer: &Answer) {
+        let mut by_the_table = false;
+        if let Some(screened) = Screened::of(message, lent, table, answer) {
+            screened.hold_to_the_page();
+            screened.count(&mut self.counts);
+            by_the_table = screened.is_hidden_by_the_table();
+        }
+        self.before(message, table);
+        match answer.numbers {
+            [0, ..] => self.accepted(message, lent, answer, by_the_table),
+            [9, _, 16, ..] => self.counts.met(Met::DoubledPrivacy, true),
+            [10, _, 16, ..] => self.counts.met(Met::MalformedPrivacy, Asked::of(message).is_some_and(|asked| asked.mentions())),
+            _ => {}
+        }
+        self.asserted(message, lent, answer, by_the_table);
+    }
+
+    /// Counts what the table before a single message is.
+    fn before(&mut self, message: &[u8], table: &Table) {
+        let none = *table == none_held();
+        self.counts.met(Met::BeforeNone, none);
+        if none {
+            return;
+        }
+        let held = Remembered::of(table);
+        self.counts.met(Met::BeforeOwn, pair_of(message).is_some_and(|pair| held.holds(&pair)));
+        self.counts.met(Met::BeforeFull, held.is_full());
+        self.counts.met(Met::BeforeCopies, held.has_copies());
+        self.counts.met(Met::BeforeIllFormed, ill_formed(table) > 0);
+        self.counts.met(Met::BeforeAny, ill_formed(table) > PLACES / 2);
     }
 
     /// The bytes of the draft, damaged or not; some are first compared by demand 3.
@@ -156,15 +210,15 @@ impl Bench {
     }
 
     /// Counts what an accepted message has that is seldom.
-    fn accepted(&mut self, message: &[u8], lent: Lent) {
+    fn accepted(&mut self, message: &[u8], lent: Lent, answer: &Answer, by_the_table: bool) {
         let start = second::lines::read(message).map(|lines| lines.start);
         let response = matches!(start, Ok(Start::Status { .. }));
         let phrase = if let Ok(Start::Status { phrase, .. }) = start { phrase.len() } else { 0 };
         self.counts.met(Met::LongPhrase, phrase > 2000);
         let Some(asked) = Asked::of(message) else { return };
         let invite = message.starts_with(b"INVITE ");
-        if invite && lent.side == 1 {
-            self.untrusted(message, lent, &asked);
+        if invite && lent.side == 1 && !by_the_table {
+            self.untrusted(message, answer, &asked);
         }
         let folded = folded_length(message, 3) > 0;
         self.counts.met(Met::UnmaskedResponse, lent.side == 1 && response && folded && asked.asks());
@@ -173,8 +227,8 @@ impl Bench {
     }
 
     /// Counts what an INVITE with Privacy that was accepted on side 1 has: what masked it, or why it was shown. The buffer says which.
-    fn untrusted(&mut self, message: &[u8], lent: Lent, asked: &Asked) {
-        let masked = self.out.part(lent.room, lent.against).windows(21).any(|part| part == b"\"Anonymous\" <sip:anon");
+    fn untrusted(&mut self, message: &[u8], answer: &Answer, asked: &Asked) {
+        let masked = is_masked(answer.outgoing());
         let ways = asked.ways();
         self.counts.met(Met::MaskedFold, masked && folded_length(message, 3) > 0);
         self.counts.met(Met::MaskedByHeader, masked && ways == [true, false, false]);
@@ -190,12 +244,15 @@ impl Bench {
     }
 
     /// Counts what the identities of a message are.
-    fn asserted(&mut self, message: &[u8], lent: Lent, numbers: [u64; 5]) {
+    fn asserted(&mut self, message: &[u8], lent: Lent, answer: &Answer, by_the_table: bool) {
         let Some(asserted) = Asserted::of(message) else { return };
-        let [reason, _, detail, ..] = numbers;
+        let [reason, _, detail, ..] = answer.numbers;
         let invite = message.starts_with(b"INVITE ");
         if invite && reason == 0 && asserted.are_two() {
-            self.two_identities(message, lent, numbers[4], asserted.in_one_field());
+            let hidden = by_the_table || lent.side == 1 && Asked::of(message).is_some_and(|asked| asked.asks());
+            self.two_identities(message, lent, answer, hidden);
+            self.counts.met(Met::TwoInOneField, asserted.in_one_field());
+            self.counts.met(Met::TwoInTwoFields, !asserted.in_one_field());
         }
         let (one_field, third, too_many) = (asserted.in_one_field(), asserted.are_more_than_two(), asserted.are_too_many());
         let for_them = reason == 10 && detail == 15;
@@ -210,77 +267,41 @@ impl Bench {
     }
 
     /// Holds what goes out of two identities to the request itself (CR 6): "When withheld on side 1, all of them go", else all are there.
-    fn two_identities(&mut self, message: &[u8], lent: Lent, length: u64, one_field: bool) {
-        let hidden = lent.side == 1 && Asked::of(message).is_some_and(|asked| asked.asks());
-        let out = &self.out.part(lent.room, lent.against)[..length as usize];
+    fn two_identities(&mut self, message: &[u8], lent: Lent, answer: &Answer, hidden: bool) {
         let wanted = if hidden { 0 } else { second::count(message, 15) };
-        same("screen, P-Asserted-Identity fields that go out", &identity_lines(out), &wanted, message, &format!("{lent:?}"));
-        self.counts.met(Met::TwoInOneField, one_field);
-        self.counts.met(Met::TwoInTwoFields, !one_field);
+        same("screen, P-Asserted-Identity fields that go out", &identity_lines(answer.outgoing()), &wanted, message, format_args!("{lent:?}"));
         self.counts.met(Met::TwoHidden, hidden);
         self.counts.met(Met::TwoShown, lent.side == 1 && !hidden);
     }
 
-    /// A side, mostly 0 or 1, and a room.
-    fn lent(&mut self, dice: &mut Dice, message: &[u8]) -> Lent {
-        let side = if dice.one_in(100) { *dice.pick(&[2, 3, 255, 256, 257, 1 << 32, (1 << 32) + 1, u64::MAX]) } else { dice.below(2) as u64 };
-        self.lent_on(dice, side, message)
-    }
-
-    /// A room that is enough, exact, one byte short, or anything.
-    fn lent_on(&mut self, dice: &mut Dice, side: u64, message: &[u8]) -> Lent {
-        let against = if dice.one_in(4) { Against::Start } else { Against::End };
-        let need = || second::screen(message, side, &mut [0; MOST_ROOM]).numbers()[4] as usize;
-        let room = match dice.below(8) {
-            0 => need(),
-            1 if dice.one_in(2) => need().saturating_sub(1),
-            2 if dice.one_in(4) => dice.below(MOST_ROOM),
-            3 if dice.one_in(8) => dice.below(3),
-            _ => 9216,
-        };
-        Lent { side, room, filling: dice.number() as u8, against }
-    }
-
-    /// The library's numbers, held with every byte of the buffer to those of the second implementation.
-    fn screen(&mut self, message: &[u8], lent: Lent) -> [u64; 5] {
-        self.counts.call(Call::Screen);
-        let guarded = self.message.copy(message, lent.against);
-        let out = self.out.part(lent.room, lent.against);
-        out.fill(lent.filling);
-        NOW.set("screen", guarded);
-        let numbers = library::screen(guarded, lent.side, out);
-        let mut wanted_out = vec![lent.filling; lent.room];
-        let wanted = second::screen(message, lent.side, &mut wanted_out).numbers();
-        same("screen (reason, reply, detail, missing, length)", &numbers, &wanted, message, &format!("{lent:?}"));
-        same_bytes("screen, the buffer", out, &wanted_out, message, &format!("{lent:?}"));
-        same_bytes("screen, the message lent to it", guarded, message, message, &format!("{lent:?}"));
-        numbers
-    }
-
-    /// Harmless fields and other names: the same numbers and the same buffer.
+    /// Harmless fields and other names: the same numbers, the same buffer and the same table.
     fn demand_3(&mut self, dice: &mut Dice, draft: &Draft, message: &[u8]) {
-        let changed = messages::changed(dice, draft).bytes();
-        if !messages::are_as_drafted(draft, [message, &changed]) {
-            return;
-        }
+        let Some(changed) = messages::harmless(dice, draft, message) else { return };
         self.counts.call(if Kind::of(draft) == Kind::Request { Call::ChangedRequest } else { Call::ChangedResponse });
-        let lent = self.lent(dice, message);
-        self.same_answer("names and extra fields changed", message, &changed, lent);
+        let table = messages::before(dice, message);
+        let lent = lent(dice, message, &table);
+        let what = "screen, names and extra fields changed";
+        let answer = self.screening.same_answer(&mut self.counts, what, [message, &changed], lent, &table);
+        self.counts.met(Met::ChangedTable, answer.after != table);
         self.isup.changed(&mut self.counts, dice, message, &changed, lent.against);
     }
 
-    /// Two withheld callers (CR 5): the same numbers and the same buffer. Where nobody hides them, the buffers mostly differ.
+    /// Two withheld callers (CR 5): the same numbers, the same buffer and the same table. Where nobody hides them, the buffers mostly differ.
     fn two_callers(&mut self, dice: &mut Dice) {
         let pair = messages::two_callers(dice);
         let Some(callers) = Callers::of(&pair[0], &pair[1]) else { return };
         let [one, other] = [pair[0].bytes(), pair[1].bytes()];
-        let lent = self.lent_on(dice, 1, &one);
-        let numbers = self.same_answer("another caller who is withheld", &one, &other, lent);
+        let table = messages::before(dice, &one);
+        let lent = Lent::drawn(dice, 1, &one, &table);
+        let what = "screen, another caller who is withheld";
+        let Answer { numbers, after, .. } = self.screening.same_answer(&mut self.counts, what, [&one, &other], lent, &table);
         self.counts.call(Call::TwoCallers);
         self.counts.reason_alone(Kind::Callers, numbers[0]);
         callers.count(&mut self.counts, numbers, lent.room);
+        self.counts.met(Met::CallersEntered, after != table);
+        self.counts.met(Met::CallersHeld, numbers[0] == 0 && after == table);
         if numbers[0] == 0 {
-            let lent = Lent { room: 9216, ..lent };
+            let lent = Lent { room: ROOM, ..lent };
             let differ = self.both_accepted_and_differ(&one, &other, Lent { side: 0, ..lent });
             self.counts.met(Met::CallersOnSide0, differ);
             let [one, other] = pair.map(|draft| messages::shown(draft).bytes());
@@ -289,22 +310,9 @@ impl Bench {
         }
     }
 
-    /// The numbers and the buffer of both messages are the same, library against library, and the second one too. Hands back the numbers.
-    fn same_answer(&mut self, what: &str, message: &[u8], changed: &[u8], lent: Lent) -> [u64; 5] {
-        let numbers = self.screen(message, lent);
-        let out = self.out.part(lent.room, lent.against).to_vec();
-        let other = self.screen(changed, lent);
-        let from = format!("{lent:?}, changed from:\n{}", escaped(message));
-        same(&format!("screen, {what}"), &other, &numbers, changed, &from);
-        same_bytes(&format!("screen, {what}, the buffer"), self.out.part(lent.room, lent.against), &out, changed, &from);
-        numbers
-    }
-
     fn both_accepted_and_differ(&mut self, message: &[u8], changed: &[u8], lent: Lent) -> bool {
-        let accepted = self.screen(message, lent)[0] == 0;
-        let out = self.out.part(lent.room, lent.against).to_vec();
-        let accepted = self.screen(changed, lent)[0] == 0 && accepted;
-        accepted && self.out.part(lent.room, lent.against) != out
+        let [one, other] = [message, changed].map(|message| self.screening.alone(&mut self.counts, message, lent, &none_held()));
+        one.numbers[0] == 0 && other.numbers[0] == 0 && one.out != other.out
     }
 
     fn readings(&mut self, dice: &mut Dice, message: &[u8], against: Against) {
@@ -388,11 +396,10 @@ fn odd_places() -> impl Iterator<Item = (usize, usize, u8)> {
     LENGTHS.into_iter().flat_map(|length| (0..length).flat_map(move |place| messages::ODD_BYTES.map(|odd| (length, place, odd))))
 }
 
-/// How many lines of an outgoing header are P-Asserted-Identity.
-fn identity_lines(out: &[u8]) -> usize {
-    let end = out.windows(4).position(|part| part == b"\r\n\r\n").unwrap_or(out.len());
-    let line = b"\r\nP-Asserted-Identity: ";
-    out[..end].windows(line.len()).filter(|part| part == line).count()
+/// A side, mostly 0 or 1, and a room.
+fn lent(dice: &mut Dice, message: &[u8], table: &Table) -> Lent {
+    let side = if dice.one_in(100) { *dice.pick(&[2, 3, 255, 256, 257, 1 << 32, (1 << 32) + 1, u64::MAX]) } else { dice.below(2) as u64 };
+    Lent::drawn(dice, side, message, table)
 }
 
 /// The length of the first value of this number where a line break stands in it, else 0.

@@ -8,7 +8,7 @@ use std::ops::RangeInclusive;
 use std::process::exit;
 
 /// What a message was drawn as; two callers (CR 5) are counted once. Then what a parameter was to be made of, and bytes to be read as one
-/// (CR 7).
+/// (CR 7); the messages of histories, and explicit ends (CR 8).
 #[derive(Clone, Copy, Debug, PartialEq)]
 pub enum Kind {
     Request,
@@ -17,6 +17,8 @@ pub enum Kind {
     Callers,
     Parameter,
     Bytes,
+    Step,
+    End,
 }
 
 impl Kind {
@@ -30,15 +32,17 @@ impl Kind {
 
 /// One more than the highest reason or refusal, and those that are printed.
 const REASONS: usize = 48;
-const PRINTED: [RangeInclusive<usize>; 2] = [0..=17, 41..=47];
-const KINDS: usize = 6;
+const PRINTED: [RangeInclusive<usize>; 2] = [0..=19, 41..=47];
+const KINDS: usize = 8;
 
 /// The reasons that each kind must meet. At 3 and before it there is no kind yet; it is that of what was drawn.
-const OF_REQUESTS: [usize; 17] = [0, 1, 2, 3, 4, 5, 6, 7, 8, 9, 10, 11, 12, 13, 14, 15, 16];
+const OF_REQUESTS: [usize; 18] = [0, 1, 2, 3, 4, 5, 6, 7, 8, 9, 10, 11, 12, 13, 14, 15, 16, 18];
 const OF_RESPONSES: [usize; 13] = [0, 1, 2, 3, 4, 5, 6, 9, 10, 11, 12, 16, 17];
-const OF_CALLERS: [usize; 12] = [0, 5, 7, 8, 9, 10, 11, 12, 13, 14, 15, 16];
+const OF_CALLERS: [usize; 13] = [0, 5, 7, 8, 9, 10, 11, 12, 13, 14, 15, 16, 18];
 const OF_PARAMETERS: [usize; 18] = [0, 2, 3, 4, 5, 6, 7, 8, 9, 10, 11, 12, 13, 14, 15, 17, 41, 42];
 const OF_BYTES: [usize; 7] = [0, 41, 43, 44, 45, 46, 47];
+const OF_STEPS: [usize; 19] = [0, 1, 2, 3, 4, 5, 6, 7, 8, 9, 10, 11, 12, 13, 14, 15, 16, 17, 18];
+const OF_ENDS: [usize; 2] = [0, 19];
 
 macro_rules! counted {
     ($name:ident, $names:ident: $($variant:ident = $text:literal),+ $(,)?) => {
@@ -50,6 +54,7 @@ macro_rules! counted {
 
 counted!(Call, CALLS:
     Screen = "screen",
+    EndCall = "end_call",
     Count = "count",
     Reading = "reading",
     CallingNumber = "calling_number",
@@ -64,7 +69,10 @@ counted!(Call, CALLS:
     ChangedRequest = "screen, names and extra fields of a request changed",
     ChangedResponse = "screen, names and extra fields of a response changed",
     TwoCallers = "screen, two withheld callers",
-    Recorded = "screen, recorded cases",
+    History = "histories",
+    ChangedHistory = "histories, names and extra fields changed",
+    Step = "steps of histories: screen, end_call",
+    Recorded = "screen, end_call: recorded cases",
     ReviewedCalling = "calling_number, worked cases of a reader",
     OddByte = "screen, an odd byte at every place",
     IsupRecorded = "isup_parameter, isup_caller: recorded cases",
@@ -146,6 +154,8 @@ counted!(Met, METS:
     CallersSecondPrivacy = "two callers: refused for a second Privacy",
     CallersOnSide0 = "two callers: accepted on side 0, where they differ",
     CallersShown = "two callers: accepted with a Privacy that hides nobody, where they differ",
+    CallersEntered = "two callers: accepted, their pair entered",
+    CallersHeld = "two callers: accepted, their pair held before",
     TakenRelay = "take_record: of a relay caller, accepted",
     TakenRelayRefused = "take_record: of a relay caller, refused",
     TakenNear = "take_record: not of one, although X-Relay-Mod stands in it",
@@ -153,6 +163,10 @@ counted!(Met, METS:
     TakenFull = "take_record: its count is 4,294,967,295 and stays",
     TakenOver = "take_record: 1,000,000 or more were read before",
     TakenEnded = "take_record: the text had ended before",
+    TakenEntered = "take_record: a pair is entered",
+    TakenRemoved = "take_record: a pair is removed",
+    TakenMeets32 = "take_record: refused with 18",
+    TakenNoMore = "take_record: not counted, and the table that it would change stays",
     EndedWith0 = "text of records that ended with 0",
     EndedWith31 = "text of records that ended with 31",
     EndedWith32 = "text of records that ended with 32",
@@ -161,12 +175,84 @@ counted!(Met, METS:
     ReadRelay = "the same, in the line relay",
     ReadOther = "the same, in the line other",
     ReadUnread = "the same, in the line unread",
+    ReadMeets32 = "the same, refused with 18",
     CauseListed = "drawn cause with a row of its own",
     CauseOfClass = "drawn cause with the row of its class end",
     CauseOver = "drawn cause of 128 to 399, refused",
     CauseCut = "drawn cause over 32 bits whose low 32 bits are a cause, refused",
     RowStood = "status_of_cause: another cause stood where the row goes",
     RefusalStood = "status_of_cause: 21 stood where 0 goes",
+    BeforeNone = "single message, none held before",
+    BeforeOwn = "single message, its own pair held before",
+    BeforeFull = "single message, 32 pairs held before",
+    BeforeCopies = "single message, a pair in several places before",
+    BeforeIllFormed = "single message, an ill-formed place before",
+    BeforeAny = "single message, more than half of the places ill-formed before: any bytes",
+    ChangedTable = "single message with names and extra fields changed, the table changes",
+    ChangedHistoryTable = "step of a history with names and extra fields changed, the table changes",
+    HistoryFromNone = "history from none held",
+    HistoryFromFull = "history from 32 pairs",
+    HistoryFromCopies = "history from a table with a pair in several places",
+    HistoryFromIllFormed = "history from a table with an ill-formed place",
+    HistoryFromAny = "history from a table with more than half of its places ill-formed: any bytes",
+    HistoryFills = "history from none held that meets 18",
+    HiddenInvite = "masked by the table alone: INVITE",
+    HiddenLater = "masked by the table alone: INVITE whose To has a tag",
+    HiddenAck = "masked by the table alone: ACK",
+    HiddenBye = "masked by the table alone: BYE",
+    HiddenCancel = "masked by the table alone: CANCEL",
+    HiddenOptions = "masked by the table alone: OPTIONS",
+    HiddenIdentity = "masked by the table alone, an identity dropped",
+    HiddenFold = "masked by the table alone, From folded",
+    HiddenLongest = "masked by the table alone, a pair of 128 and 64 bytes",
+    HiddenShortest = "masked by the table alone, a pair of one byte each",
+    HiddenByCopies = "masked by the table alone, the pair in several places",
+    HiddenByLast = "masked by the table alone, the pair in the last place",
+    HiddenShorter = "masked by the table alone, too long for the room if it were not",
+    NearTag = "shown or entered, the same Call-ID held with another tag",
+    NearCallId = "shown or entered, the same tag held with another Call-ID",
+    NearCase = "shown or entered, the pair held in another letter case",
+    NearLonger = "shown or entered, a pair held that begins with its texts",
+    NearBorder = "shown or entered, a pair held whose texts joined are the same",
+    LooksHeld = "shown or entered, an ill-formed place has its texts",
+    EnteredEmpty = "pair entered at an empty place",
+    EnteredOverJunk = "pair entered at an empty place with other bytes behind the 0",
+    EnteredLater = "pair entered at an empty place behind one that is free in another way",
+    EnteredFree = "pair entered at a place that is free in another way",
+    EnteredOverLong = "pair entered at a place with a length over its bound",
+    EnteredOverCopy = "pair entered over the copy of another",
+    EnteredLast = "pair entered at the last place",
+    EnteredAs32nd = "pair entered as the 32nd",
+    HeldAlready = "withheld INVITE accepted whose pair is held",
+    HeldAlreadyIn32 = "withheld INVITE accepted whose pair is one of 32",
+    ShownMeets32 = "INVITE accepted that meets 32, not withheld",
+    Meets32 = "refused with 18",
+    Meets32NoRoom = "refused with 18, less than 100 bytes of room",
+    BeforeMeets32 = "refused with 6 to 15, although a new pair meets 32",
+    RemovedOne = "pair removed by a BYE",
+    RemovedCopies = "pair removed by a BYE from several places",
+    RemovedLast = "pair removed by a BYE from the last place",
+    RemovedOf32 = "pair removed by a BYE, one of 32",
+    ByeUnknown = "BYE accepted whose pair is not held",
+    RefusedBye = "BYE refused with 6 to 15, its pair held",
+    RefusedOpening = "withheld INVITE refused with 6 to 15, its pair not held",
+    NoRoomBye = "BYE refused with 16, its pair held",
+    NoRoomOpening = "withheld INVITE refused with 16, its pair not held",
+    NoRoomMasked = "refused with 16, room enough if the table did not mask it",
+    TrustedHeld = "accepted on side 0, its pair held",
+    TrustedBye = "BYE accepted on side 0, its pair held",
+    TrustedOpening = "withheld INVITE accepted on side 0, its pair not held",
+    ResponseHeld = "response accepted on side 1, its pair held",
+    ResponseToBye = "response to a BYE accepted on side 1, its pair held",
+    EndedOne = "explicit end of a pair",
+    EndedCopies = "explicit end of a pair in several places",
+    EndedUnknown = "explicit end of a pair that is not held",
+    EndedNear = "explicit end of a pair that is not held, one near to it is",
+    EndedEmpty = "explicit end with an empty text",
+    EndedLong = "explicit end with a text of one byte too many",
+    EndedOver255 = "explicit end with a text of over 255 bytes",
+    EndedOtherByte = "explicit end with a byte that no pair has",
+    EndedLooksHeld = "explicit end of texts that stand in an ill-formed place",
     MadeNationalOdd = "parameter: national, an odd number of digits",
     MadeNationalEven = "parameter: national, an even number of digits",
     MadeInternationalOdd = "parameter: international, an odd number of digits",
@@ -247,7 +333,7 @@ impl Counts {
         for (name, calls) in CALLS.iter().zip(&self.calls) {
             println!("{calls:>12}  {name}");
         }
-        println!("      reason    requests   responses       noise two callers  parameters       bytes");
+        println!("      reason    requests   responses       noise two callers  parameters       bytes   histories        ends");
         for reason in PRINTED.into_iter().flatten() {
             let numbers: String = self.reasons.iter().map(|kind| format!("{:>12}", kind[reason])).collect();
             println!("{reason:>12}{numbers}");
@@ -270,7 +356,7 @@ impl Counts {
             due.iter().filter(|&&reason| self.reasons[kind as usize][reason] == 0).map(|reason| format!("reason {reason} of a {kind:?}")).collect()
         };
         let mut never = [missed(Kind::Request, &OF_REQUESTS), missed(Kind::Response, &OF_RESPONSES), missed(Kind::Callers, &OF_CALLERS)].concat();
-        never.extend([missed(Kind::Parameter, &OF_PARAMETERS), missed(Kind::Bytes, &OF_BYTES)].concat());
+        never.extend([missed(Kind::Parameter, &OF_PARAMETERS), missed(Kind::Bytes, &OF_BYTES), missed(Kind::Step, &OF_STEPS), missed(Kind::End, &OF_ENDS)].concat());
         // Both columns of INVITE are counted as the first.
         let columns = COLUMNS.iter().zip(&self.accepted).filter(|(&column, &messages)| column != Column::Re && messages == 0);
         never.extend(columns.map(|(column, _)| format!("column {column:?}")));

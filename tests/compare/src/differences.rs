@@ -1,5 +1,6 @@
 //! Ends the run at the first difference, with all that is needed to see it again.
 
+use std::fmt::{Debug, Display};
 use std::process::exit;
 
 /// A part that is handed out must lie inside the whole.
@@ -9,13 +10,13 @@ pub fn within(what: &str, (start, length): (usize, usize), whole: &[u8], message
     }
 }
 
-pub fn same<T: PartialEq + std::fmt::Debug>(what: &str, library: &T, second: &T, message: &[u8], lent: &str) {
+pub fn same<T: PartialEq + Debug>(what: &str, library: &T, second: &T, message: &[u8], lent: impl Display) {
     if library != second {
-        differs(what, &format!("{library:?}"), &format!("{second:?}"), message, lent);
+        differs(what, &format!("{library:?}"), &format!("{second:?}"), message, &lent.to_string());
     }
 }
 
-pub fn same_bytes(what: &str, library: &[u8], second: &[u8], message: &[u8], lent: &str) {
+pub fn same_bytes(what: &str, library: &[u8], second: &[u8], message: &[u8], lent: impl Display) {
     if library != second {
         let place = library.iter().zip(second).position(|(a, b)| a != b).unwrap_or(library.len().min(second.len()));
         let lent = format!("{lent}\nfirst other byte: {place}");
@@ -23,7 +24,7 @@ pub fn same_bytes(what: &str, library: &[u8], second: &[u8], message: &[u8], len
     }
 }
 
-fn differs(what: &str, library: &str, second: &str, message: &[u8], lent: &str) -> ! {
+pub fn differs(what: &str, library: &str, second: &str, message: &[u8], lent: &str) -> ! {
     eprintln!();
     println!("difference in {what}\nlent: {lent}\nlibrary: {library}\nsecond:  {second}\nmessage ({} bytes):\n{}", message.len(), escaped(message));
     exit(1)

@@ -1,5 +1,6 @@
 //! Memory that ends, or starts, directly at a page that must not be touched.
 
+use second::drafts::Dice;
 use std::ffi::c_void;
 use std::ptr;
 
@@ -24,6 +25,13 @@ pub struct Guarded {
 pub enum Against {
     End,
     Start,
+}
+
+impl Against {
+    /// Mostly the end.
+    pub fn drawn(dice: &mut Dice) -> Against {
+        if dice.one_in(4) { Against::Start } else { Against::End }
+    }
 }
 
 impl Guarded {

@@ -116,8 +116,7 @@ impl Isup {
         let message = draft.bytes();
         self.forward(met, dice, &message, against);
         if dice.one_in(4) {
-            let changed = messages::changed(dice, &draft).bytes();
-            if messages::are_as_drafted(&draft, [&message, &changed]) {
+            if let Some(changed) = messages::harmless(dice, &draft, &message) {
                 self.changed(met, dice, &message, &changed, against);
             }
         } else if dice.one_in(4) {

@@ -6,14 +6,18 @@ mod causes;
 mod counts;
 mod differences;
 mod guarded;
+mod histories;
 mod identities;
 mod isup;
 mod isup_library;
 mod library;
 mod messages;
+mod outgoing;
 mod privacy;
 mod progress;
+mod remembered;
 mod replay;
+mod screening;
 mod tally;
 mod watch;
 

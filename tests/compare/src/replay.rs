@@ -1,15 +1,19 @@
-//! The replay (CR 3): single records, texts of records whole and damaged, and reports, library against second implementation.
+//! The replay (CR 3): single records, texts of records whole and damaged, and reports, library against second implementation. The table of
+//! remembered calls (CR 8) goes from record to record.
 
 use crate::counts::{Call, Counts, Met};
 use crate::differences::{same, same_bytes};
 use crate::guarded::{Against, Guarded};
 use crate::library::{self, COUNTS};
 use crate::messages::texts;
+use crate::screening::{same_table, Lent, Said};
 use crate::tally::{place, Tally};
 use crate::watch::NOW;
+use second::calls::TABLE;
 use second::drafts::Dice;
 use second::recorded::history::fixed_file;
-use second::replay::{self, Group, MOST_RECORDS};
+use second::replay::{self, Group, Record, MOST_RECORDS};
+use second::{none_held, Table};
 
 /// A text has the records of so many messages.
 const RECORDS: usize = 50;
@@ -21,13 +25,15 @@ const MOST_TEXT: usize = 5 * (MOST_RECORDS + 2) + 70_000;
 pub struct Replay {
     text: Guarded,
     counts: Guarded,
+    calls: Guarded,
     out: Guarded,
     drawn: Vec<(u8, Vec<u8>)>,
 }
 
 impl Replay {
     pub fn new() -> Replay {
-        Replay { text: Guarded::new(MOST_TEXT), counts: Guarded::new(4 * COUNTS), out: Guarded::new(ROOM), drawn: Vec::new() }
+        let [text, counts, calls, out] = [MOST_TEXT, 4 * COUNTS, TABLE, ROOM].map(Guarded::new);
+        Replay { text, counts, calls, out, drawn: Vec::new() }
     }
 
     /// All that is not drawn.
@@ -73,25 +79,40 @@ impl Replay {
     }
 
     /// One drawn message as a record, and after each fiftieth a text of them.
-    pub fn one(&mut self, met: &mut Counts, dice: &mut Dice, message: &[u8], side: u64, against: Against) {
-        self.take(met, dice, message, side, against);
-        let kept = message[..message.len().min(65_535)].to_vec();
-        self.drawn.push((if dice.one_in(60) { dice.number() as u8 } else { side as u8 }, kept));
+    pub fn one(&mut self, met: &mut Counts, dice: &mut Dice, message: &[u8], lent: Lent, table: &Table) {
+        self.take(met, dice, message, lent, table);
+        let side = if dice.one_in(60) { dice.number() } else { lent.side };
+        self.drawn.push(kept(side, message));
         if self.drawn.len() == RECORDS {
             let drawn = std::mem::take(&mut self.drawn);
             let text = texts::damaged(dice, &drawn);
-            self.text(met, &text, against);
+            self.text(met, &text, lent.against);
         }
     }
 
-    /// One record from any numbers: the library's numbers afterwards, and now and then their report.
-    fn take(&mut self, met: &mut Counts, dice: &mut Dice, message: &[u8], side: u64, against: Against) {
-        let judged = replay::judged(message, side);
+    /// The messages of a history as a text.
+    pub fn history(&mut self, met: &mut Counts, dice: &mut Dice, messages: &[(u64, Vec<u8>)], against: Against) {
+        let records: Vec<(u8, Vec<u8>)> = messages.iter().map(|(side, message)| kept(*side, message)).collect();
+        let text = texts::damaged(dice, &records);
+        self.text(met, &text, against);
+    }
+
+    /// One record from any numbers and any table: the library's numbers and table afterwards, and now and then their report.
+    fn take(&mut self, met: &mut Counts, dice: &mut Dice, message: &[u8], Lent { side, against, .. }: Lent, table: &Table) {
+        let mut screened = *table;
+        let judged = replay::judged(message, side, &mut screened);
         let before = Tally::drawn(dice, judged);
         let wanted = before.with(judged);
+        // Where a record is not counted nothing changes, the table neither.
+        let wanted_table = if wanted.read == before.read { *table } else { screened };
+        self.calls.copy(table, against);
         let after = self.taken(met, &before, side, message, against);
-        same("take_record (counts, read, end)", &after, &wanted, message, &format!("side {side}, before: {before:?}"));
+        let lent = (side, &before);
+        let said = Said(&lent, table);
+        same("take_record (counts, read, end)", &after, &wanted, message, &said);
+        same_table("take_record", self.calls.part(TABLE, against), &wanted_table, message, &said);
         met_taken(met, message, judged, &before, &wanted);
+        met_table(met, message, judged.1, [table, &screened, &wanted_table]);
         if dice.one_in(8) {
             let most = *dice.pick(&[ROOM, 400]);
             let room = dice.below(most);
@@ -99,14 +120,14 @@ impl Replay {
         }
     }
 
-    /// What the library leaves of these numbers and one record more.
+    /// What the library leaves of these numbers and one record more. Its table stays where it is for the next one.
     fn taken(&mut self, met: &mut Counts, before: &Tally, side: u64, message: &[u8], against: Against) -> Tally {
         met.call(Call::TakeRecord);
         let guarded = self.text.copy(message, against);
         let counts = self.counts.numbers(COUNTS, against);
         counts.copy_from_slice(&before.counts);
         NOW.set("take_record", guarded);
-        let (read, end) = library::take_record(counts, before.read, before.end, side, guarded);
+        let (read, end) = library::take_record(counts, (before.read, before.end), self.calls.part(TABLE, against), side, guarded);
         same_bytes("take_record, the message lent to it", guarded, message, message, "");
         Tally { counts: counts.to_vec(), read, end }
     }
@@ -141,13 +162,20 @@ impl Replay {
         Tally { counts: counts.to_vec(), read, end }
     }
 
-    /// The records of a text, with one more where it ended with 33, leave the same counts. Only that end is seen by them.
+    /// The records of a text, with one more where it ended with 33, leave the same counts, and after each of them the table that the second
+    /// implementation has. Only that end is seen by them.
     fn one_by_one(&mut self, met: &mut Counts, text: &[u8], whole: &Tally, against: Against) {
         let (records, _) = replay::records(text);
         let mut tally = Tally::new();
+        let mut table = none_held();
+        self.calls.copy(&table, against);
         let more = records.last().filter(|_| whole.end == 33);
-        for record in records.iter().chain(more) {
-            tally = self.taken(met, &tally, u64::from(record.side), record.message, against);
+        for &Record { side, message } in records.iter().chain(more) {
+            tally = self.taken(met, &tally, u64::from(side), message, against);
+            if tally.end == 0 {
+                replay::judged(message, u64::from(side), &mut table);
+            }
+            same_table("take_record, one by one", self.calls.part(TABLE, against), &table, message, "");
         }
         let end = if whole.end == 33 { 33 } else { 0 };
         same("take_record, one by one", &tally, &Tally { end, ..whole.clone() }, text, "");
@@ -177,6 +205,19 @@ impl Replay {
     }
 }
 
+/// What a record keeps of a side and a message.
+fn kept(side: u64, message: &[u8]) -> (u8, Vec<u8>) {
+    (side as u8, message[..message.len().min(65_535)].to_vec())
+}
+
+/// Counts what a record did to the table, and what it would have done.
+fn met_table(met: &mut Counts, message: &[u8], reason: u64, [before, screened, after]: [&Table; 3]) {
+    met.met(Met::TakenEntered, after != before && message.starts_with(b"INVITE "));
+    met.met(Met::TakenRemoved, after != before && message.starts_with(b"BYE "));
+    met.met(Met::TakenMeets32, reason == 18);
+    met.met(Met::TakenNoMore, screened != before && after == before);
+}
+
 /// Counts what a record met that is seldom.
 fn met_taken(met: &mut Counts, message: &[u8], (group, reason): (Group, u64), before: &Tally, after: &Tally) {
     let holds = |name: &[u8]| message.windows(name.len()).any(|part| part.eq_ignore_ascii_case(name));
@@ -198,6 +239,7 @@ fn met_text(met: &mut Counts, history: &replay::History, end: u64) {
         return;
     }
     met.met_often(Met::Read, history.len() as u64);
+    met.met_often(Met::ReadMeets32, history.iter().filter(|one| one.1 == 18).count() as u64);
     for (line, group) in [(Met::ReadRelay, Group::Relay), (Met::ReadOther, Group::Other), (Met::ReadUnread, Group::Unread)] {
         met.met_often(line, history.iter().filter(|one| one.0 == group).count() as u64);
     }

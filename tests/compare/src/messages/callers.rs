@@ -151,7 +151,7 @@ fn put(field: &mut Whole, value: &[u8]) {
 }
 
 /// From with this tag, anywhere among other parameters.
-fn from(dice: &mut Dice, tag: &[u8]) -> Vec<u8> {
+pub fn from(dice: &mut Dice, tag: &[u8]) -> Vec<u8> {
     let user = user(dice);
     let uri = if dice.one_in(4) { telephone(dice) } else { sip(dice, &user) };
     let address = if dice.one_in(4) { uri } else { in_brackets(dice, uri) };

@@ -37,14 +37,16 @@ fn any_value(dice: &mut Dice) -> Vec<u8> {
     out
 }
 
-/// Whether both messages have their empty line where the draft has it. A fault can leave one inside a drafted field; what comes after it is
-/// body, and no longer a field to be renamed.
-pub fn are_as_drafted(draft: &Draft, messages: [&[u8]; 2]) -> bool {
-    messages.iter().all(|bytes| lines::read(bytes).is_ok_and(|lines| lines.rest == draft.body))
+/// The message of the draft with harmless fields added and names rewritten. None where one of the two has its empty line elsewhere than the
+/// draft: a fault can leave one inside a drafted field; what comes after it is body, and no longer a field to be renamed.
+pub fn harmless(dice: &mut Dice, draft: &Draft, message: &[u8]) -> Option<Vec<u8>> {
+    let changed = changed(dice, draft).bytes();
+    let as_drafted = |bytes: &[u8]| lines::read(bytes).is_ok_and(|lines| lines.rest == draft.body);
+    (as_drafted(message) && as_drafted(&changed)).then_some(changed)
 }
 
 /// The same message with harmless fields added anywhere and names rewritten: each original field keeps every byte after its name.
-pub fn changed(dice: &mut Dice, draft: &Draft) -> Draft {
+fn changed(dice: &mut Dice, draft: &Draft) -> Draft {
     let listed = ignored_names(draft);
     let mut out = draft.clone();
     for field in out.fields.iter_mut() {

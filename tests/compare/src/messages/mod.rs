@@ -8,15 +8,22 @@ mod faults;
 mod folds;
 mod identities;
 mod odd;
+mod pairs;
 pub mod parameters;
 mod relay;
+mod steps;
+mod tables;
 pub mod texts;
 mod values;
 
 pub use callers::{shown, two_callers};
-pub use change::{are_as_drafted, changed};
+pub use change::harmless;
 pub use damage::{cut_in_a_name, damage, noise};
 pub use odd::{carrying, phrased, CARRIERS, ODD_BYTES};
+pub use pairs::Pool;
+pub use steps::{step, Step};
+pub use tables::{before, drawn as table};
+pub use values::is_token;
 
 use second::drafts::{renamed, Dice, Draft, Whole, COLUMN_METHODS, REQUESTS, RESPONSES};
 use second::profile::{self, COLUMNS, ROWS};
