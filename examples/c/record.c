@@ -13,12 +13,13 @@
 #define MOST 65535
 
 /*
- * What is counted so far. A gateway keeps these three for the whole quarter; one that starts again has them from mishkolar_replay of its
- * records, where those end with 0. After 1,000,000 records the next makes end 33 and is not counted: before it begin a new file, and all
- * three at 0.
+ * What is counted so far. A gateway keeps these four for the whole quarter; one that starts again takes its recorded messages once more, from
+ * the first on. After 1,000,000 records the next makes end 33 and is not counted: before it begin a new file, and all four at 0. The
+ * calls are those of the records, as a replay finds them: the table that the gateway screens with is another one.
  */
 static uint32_t counts[60];
 static uint64_t taken, end;
+static uint8_t calls[MISHKOLAR_CALLS];
 
 /* Writes one record: mark, side, length with the high byte first, message. Says whether all of it was written. */
 static int put_record(FILE *records, uint8_t side, const uint8_t *message, size_t len)
@@ -40,7 +41,7 @@ static int take(const char *name, uint8_t side, const uint8_t *message, size_t l
         perror("standard output");
         exit(1);
     }
-    mishkolar_take_record(counts, &taken, &end, side, message, len);
+    mishkolar_take_record(counts, &taken, &end, calls, side, message, len);
     return 1;
 }
 

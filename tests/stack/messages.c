@@ -1,4 +1,5 @@
 #include "messages.h"
+#include "tables.h"
 
 #include <stdio.h>
 #include <stdlib.h>
@@ -9,7 +10,7 @@
 #define TEL "<tel:+33187654321>"
 
 struct message *messages;
-size_t message_count;
+size_t message_count, calls_begin, calls_end;
 
 /* The message that is being written. */
 static char text[80000];
@@ -53,8 +54,8 @@ static void keep(const char *name, unsigned reason)
 
 /* An accepted INVITE. */
 static const char *const plain[][2] = {
-    { "Via", "SIP/2.0/UDP a.example;branch=z9hG4bK7" }, { "Max-Forwards", "70" }, { "From", CALLER ";tag=1" }, { "To", "<" URI ">" },
-    { "Call-ID", "x@a.example" }, { "CSeq", "1 INVITE" }, { "Contact", "<sip:a.example>" }, { "Allow", "INVITE, ACK, BYE" },
+    { "Via", "SIP/2.0/UDP a.example;branch=z9hG4bK7" }, { "Max-Forwards", "70" }, { "From", CALLER ";tag=" OWN_TAG }, { "To", "<" URI ">" },
+    { "Call-ID", OWN_ID }, { "CSeq", "1 INVITE" }, { "Contact", "<sip:a.example>" }, { "Allow", "INVITE, ACK, BYE" },
     { "P-Asserted-Identity", CALLER }, { "Content-Length", "0" },
 };
 #define PLAIN (sizeof plain / sizeof plain[0])
@@ -295,6 +296,43 @@ static void make_identities(void)
     make_changed("two identities of one scheme", START, field, "P-Asserted-Identity: " CALLER "\r\nP-Asserted-Identity: " CALLER "\r\n", 10);
 }
 
+/* A request of one of the alike pairs; an INVITE is withheld. */
+static void make_call(const char *method, unsigned number)
+{
+    char name[96];
+    size_t row;
+
+    put(method);
+    put(" " URI " SIP/2.0\r\nFrom: " CALLER ";tag=" ALIKE_TAG);
+    text[length++] = alike(number);
+    put("\r\nCall-ID: " ALIKE_ID "\r\nCSeq: 1 ");
+    put(method);
+    put("\r\n");
+    for (row = 0; row < PLAIN; row++)
+        if (strcmp(plain[row][0], "From") != 0 && strcmp(plain[row][0], "Call-ID") != 0 && strcmp(plain[row][0], "CSeq") != 0)
+            put_line(plain[row][0], plain[row][1]);
+    if (strcmp(method, "INVITE") == 0)
+        put_line("Privacy", "user");
+    put("\r\n");
+    snprintf(name, sizeof name, "%s of the alike pair %u", method, number);
+    keep(name, 0);
+}
+
+static void make_calls(void)
+{
+    static const char *const methods[] = { "ACK", "BYE", "CANCEL", "OPTIONS" };
+    unsigned number;
+    size_t i;
+
+    calls_begin = message_count;
+    for (number = 0; number <= PAIRS; number++)
+        make_call("INVITE", number);
+    for (i = 0; i < sizeof methods / sizeof methods[0]; i++)
+        for (number = 0; number <= PAIRS; number += PAIRS / 2)
+            make_call(methods[i], number);
+    calls_end = message_count;
+}
+
 static void make_refusals(void)
 {
     static const char *const methods[] = { "ACK", "BYE", "CANCEL", "OPTIONS" };
@@ -410,6 +448,7 @@ void make_messages(void)
     make_values(&request);
     make_fields(&request);
     make_identities();
+    make_calls();
     make_refusals();
     put_whole(&response);
     put("\r\n");
@@ -423,7 +462,7 @@ void make_messages(void)
 void read_recorded(const char *path)
 {
     FILE *file = fopen(path, "rb");
-    uint8_t head[5];
+    uint8_t head[6];
     unsigned place = 0;
 
     if (file == NULL) {
@@ -432,9 +471,10 @@ void read_recorded(const char *path)
     }
     while (fread(head, 1, sizeof head, file) == sizeof head) {
         char name[96];
-        length = fread(text, 1, (size_t)head[3] << 8 | head[4], file);
+        length = fread(text, 1, (size_t)head[4] << 8 | head[5], file);
         snprintf(name, sizeof name, "recorded case %u", ++place);
-        keep(name, ANY_REASON);
+        if (head[0] < 2)
+            keep(name, ANY_REASON);
     }
     fclose(file);
 }

@@ -13,6 +13,7 @@
 #include "messages.h"
 #include "mishkolar.h"
 #include "mishkolar_isup.h"
+#include "tables.h"
 
 /* The size for each library; for a trial another for both. */
 #ifdef SIZE
@@ -95,21 +96,26 @@ struct call {
     uint64_t arguments[10];
 };
 
+/* The table of hidden calls that is lent, and the one that it is before each call. */
+static uint8_t calls[MISHKOLAR_CALLS];
+static const struct table *before = tables;
+
 static uint64_t done_on(const struct stack *stack, const struct call *call)
 {
+    memcpy(calls, before->bytes, sizeof calls);
     memcpy(stack->top, call->arguments + 6, 4 * sizeof call->arguments[0]);
     return call_at(stack->top, call->function, call->arguments);
 }
 
-/* How many bytes below the stack pointer are written, with this paint under them. */
-static size_t written(const struct call *call, uint8_t paint)
+/* How many bytes below the stack pointer are written, with this paint under them; what the function returns. */
+static size_t written(const struct call *call, uint8_t paint, uint64_t *returned)
 {
     static uint8_t painted[256];
     uint8_t *at = plenty.low;
 
     memset(painted, paint, sizeof painted);
     memset(plenty.low, paint, PLENTY);
-    done_on(&plenty, call);
+    *returned = done_on(&plenty, call);
     while (plenty.top - at >= (ptrdiff_t)sizeof painted && memcmp(at, painted, sizeof painted) == 0)
         at += sizeof painted;
     while (at < plenty.top && *at == paint)
@@ -118,22 +124,22 @@ static size_t written(const struct call *call, uint8_t paint)
 }
 
 /* The call, on the tight stack or measured with two paints: a byte that is written with the one differs from the other. */
-static void try(const struct call *call)
+static uint64_t try(const struct call *call)
 {
+    uint64_t returned;
     size_t a, b;
 
-    if (note->on_tight) {
-        done_on(&tight, call);
-        return;
-    }
-    a = written(call, 0x5a);
-    b = written(call, 0xc3);
+    if (note->on_tight)
+        return done_on(&tight, call);
+    a = written(call, 0x5a, &returned);
+    b = written(call, 0xc3, &returned);
     if (a < b)
         a = b;
     if (a > note->most) {
         note->most = a;
         memcpy(note->most_at, note->doing, sizeof note->doing);
     }
+    return returned;
 }
 
 #define NUMBER(x) ((uint64_t)(uintptr_t)(x))
@@ -143,23 +149,66 @@ static void try(const struct call *call)
 static uint8_t out[ROOM];
 static uint64_t answers[4];
 
+static void try_room(const struct message *m, uint64_t side, size_t room)
+{
+    struct call call = { mishkolar_screen, { NUMBER(m->bytes), m->len, side, NUMBER(calls), NUMBER(out), room,
+        NUMBER(answers), NUMBER(answers + 1), NUMBER(answers + 2), NUMBER(answers + 3) } };
+
+    DOING("%s, side %d, room %zu, %s", m->name, (int)side, room, before->name);
+    try(&call);
+    note->met |= MET(answers[0]);
+}
+
+/* With every table; with none held also with room enough as it is told, exact and one byte short, and to the other sides. */
 static void try_screen(const struct message *m)
 {
     static const uint64_t sides[] = { 1, 0, 2 };
-    size_t i, j;
+    size_t i;
 
+    for (before = tables + 1; before < tables + TABLES; before++) {
+        try_room(m, 1, ROOM);
+        try_room(m, 1, 0);
+    }
+    before = tables;
     for (i = 0; i < 3; i++) {
-        size_t need = mishkolar_screen(m->bytes, m->len, sides[i], out, ROOM, answers, answers + 1, answers + 2, answers + 3);
-        size_t rooms[] = { ROOM, 9216, need, need == 0 ? 0 : need - 1, 0 };
+        size_t need;
+        memcpy(calls, before->bytes, sizeof calls);
+        need = mishkolar_screen(m->bytes, m->len, sides[i], calls, out, ROOM, answers, answers + 1, answers + 2, answers + 3);
         if (i == 0)
             note->reason = (unsigned)answers[0];
-        for (j = 0; j < sizeof rooms / sizeof rooms[0]; j++) {
-            struct call call = { mishkolar_screen, { NUMBER(m->bytes), m->len, sides[i], NUMBER(out), rooms[j], NUMBER(answers), NUMBER(answers + 1), NUMBER(answers + 2), NUMBER(answers + 3) } };
-            DOING("%s, side %d, room %zu", m->name, (int)sides[i], rooms[j]);
-            try(&call);
-            note->met |= MET(answers[0]);
-        }
+        try_room(m, sides[i], ROOM);
+        try_room(m, sides[i], 9216);
+        try_room(m, sides[i], need);
+        try_room(m, sides[i], need == 0 ? 0 : need - 1);
+        try_room(m, sides[i], 0);
     }
+}
+
+static void try_pair(const char *id, size_t id_len, const char *tag, size_t tag_len)
+{
+    struct call call = { mishkolar_end_call, { NUMBER(calls), NUMBER(id), id_len, NUMBER(tag), tag_len } };
+
+    for (before = tables; before < tables + TABLES; before++) {
+        DOING("a Call-ID of %zu bytes, a tag of %zu, %s", id_len, tag_len, before->name);
+        note->met |= MET(try(&call));
+    }
+}
+
+/* Pairs that are held, pairs that are not, and texts that are no pair. */
+static void try_end_call(const struct message *m)
+{
+    static const char held[] = ALIKE_TAG "A", other[] = ALIKE_TAG "z", longer[65536] = { 0 };
+
+    (void)m;
+    try_pair(OWN_ID, strlen(OWN_ID), OWN_TAG, strlen(OWN_TAG));
+    try_pair(ALIKE_ID, strlen(ALIKE_ID), held, strlen(held));
+    try_pair(ALIKE_ID, strlen(ALIKE_ID), other, strlen(other));
+    try_pair(ALIKE_ID "i", strlen(ALIKE_ID) + 1, held, strlen(held));
+    try_pair(ALIKE_ID, strlen(ALIKE_ID), ALIKE_TAG "AA", strlen(held) + 1);
+    try_pair(OWN_ID, strlen(OWN_ID), NULL, 0);
+    try_pair(NULL, 0, OWN_TAG, strlen(OWN_TAG));
+    try_pair(NULL, 0, NULL, 0);
+    try_pair(longer, sizeof longer, longer, sizeof longer);
 }
 
 /* Not listed, the first, one that may be withheld, one that repeats, the last, not listed. */
@@ -205,19 +254,35 @@ static void try_calling_number(const struct message *m)
 static uint32_t counts[60];
 static uint64_t taken, ended;
 
+/* The reasons that were counted. */
+static void note_counts(void)
+{
+    size_t i;
+
+    for (i = 0; i < sizeof counts / sizeof counts[0]; i++)
+        if (counts[i] != 0)
+            note->met |= MET(i % 20);
+}
+
+static void try_taking(const struct message *m, uint64_t side, uint64_t records)
+{
+    struct call call = { mishkolar_take_record, { NUMBER(counts), NUMBER(&taken), NUMBER(&ended), NUMBER(calls), side, NUMBER(m->bytes), m->len } };
+
+    DOING("%s, side %d, after %d records, %s", m->name, (int)side, (int)records, before->name);
+    taken = records;
+    ended = 0;
+    try(&call);
+    note_counts();
+}
+
 static void try_take_record(const struct message *m)
 {
-    static const uint64_t sides[] = { 1, 0, 2 }, before[] = { 0, 1000000 };
-    size_t i, j;
-
-    for (i = 0; i < sizeof sides / sizeof sides[0]; i++)
-        for (j = 0; j < sizeof before / sizeof before[0]; j++) {
-            struct call call = { mishkolar_take_record, { NUMBER(counts), NUMBER(&taken), NUMBER(&ended), sides[i], NUMBER(m->bytes), m->len } };
-            DOING("%s, side %d, after %d records", m->name, (int)sides[i], (int)before[j]);
-            taken = before[j];
-            ended = 0;
-            try(&call);
-        }
+    for (before = tables; before < tables + TABLES; before++)
+        try_taking(m, 1, 0);
+    before = tables;
+    try_taking(m, 0, 0);
+    try_taking(m, 2, 0);
+    try_taking(m, 1, 1000000);
 }
 
 #define LONGEST 65535
@@ -235,20 +300,35 @@ static size_t put_record(size_t at, uint8_t side, const struct message *m)
     return at + sizeof head + len;
 }
 
+static void try_text(const struct message *m, const char *name, const uint8_t *bytes, size_t len)
+{
+    struct call call = { mishkolar_replay, { NUMBER(bytes), len, NUMBER(counts), NUMBER(&taken), NUMBER(&ended) } };
+
+    DOING("%s, %s", m->name, name);
+    try(&call);
+    note_counts();
+}
+
+/* Behind 33 hidden calls. */
+static void try_behind_calls(const struct message *m)
+{
+    size_t at = 0, place;
+
+    for (place = calls_begin; place <= calls_begin + PAIRS; place++)
+        at = put_record(at, 1, &messages[place]);
+    try_text(m, "behind 33 hidden calls", text, put_record(at, 1, m));
+}
+
 static void try_replay(const struct message *m)
 {
-    size_t one = put_record(0, 1, m), two = put_record(one, 0, m), i;
-    const struct {
-        const char *name;
-        const uint8_t *bytes;
-        size_t len;
-    } texts[] = { { "two records", text, two }, { "the second cut short", text, two - 1 }, { "a bad mark", text + 1, two - 1 }, { "no record", m->bytes, m->len } };
+    size_t two = put_record(put_record(0, 1, m), 0, m);
 
-    for (i = 0; i < sizeof texts / sizeof texts[0]; i++) {
-        struct call call = { mishkolar_replay, { NUMBER(texts[i].bytes), texts[i].len, NUMBER(counts), NUMBER(&taken), NUMBER(&ended) } };
-        DOING("%s, %s", m->name, texts[i].name);
-        try(&call);
-    }
+    try_text(m, "two records", text, two);
+    try_text(m, "the second cut short", text, two - 1);
+    try_text(m, "a bad mark", text + 1, two - 1);
+    try_text(m, "no record", m->bytes, m->len);
+    if (m >= messages + calls_begin && m < messages + calls_end)
+        try_behind_calls(m);
 }
 
 static void try_report(const struct message *m)
@@ -356,12 +436,20 @@ static void try_isup_status(const struct message *m)
     try_causes(mishkolar_isup_status, 1);
 }
 
-/* The screen's reasons; what comes out of a parameter, which has neither 1 nor 16; and out of a parameter field. */
-#define REASONS (MET(18) - 1)
-#define WRITTEN ((REASONS & ~(MET(1) | MET(16))) | MET(41) | MET(42))
+/*
+ * The screen's reasons; those of records, which have room enough, and of texts, which have good sides here; what comes out of a parameter,
+ * which has none of 1, 16 and 18; and out of a parameter field.
+ */
+#define REASONS (MET(19) - 1)
+#define COUNTED (REASONS & ~MET(16))
+#define REPLAYED (COUNTED & ~MET(1))
+#define WRITTEN ((REPLAYED & ~MET(18)) | MET(41) | MET(42))
 #define READ (MET(0) | MET(41) | MET(43) | MET(44) | MET(45) | MET(46) | MET(47))
 
-/* Every function of both headers; the report, a field and causes are no messages. What each must have met, where it tells a reason or a refusal. */
+/*
+ * Every function of both headers; a pair, the report, a field and causes are no messages. What each must have met, where it tells or counts a
+ * reason or a refusal.
+ */
 static const struct {
     const char *name;
     void (*try)(const struct message *m);
@@ -370,11 +458,12 @@ static const struct {
     uint64_t met;
 } functions[] = {
     { "mishkolar_screen", try_screen, 1, SCREEN_SIZE, REASONS },
+    { "mishkolar_end_call", try_end_call, 0, SCREEN_SIZE, MET(0) | MET(19) },
     { "mishkolar_count", try_count, 1, SCREEN_SIZE, 0 },
     { "mishkolar_reading", try_reading, 1, SCREEN_SIZE, 0 },
     { "mishkolar_calling_number", try_calling_number, 1, SCREEN_SIZE, 0 },
-    { "mishkolar_take_record", try_take_record, 1, SCREEN_SIZE, 0 },
-    { "mishkolar_replay", try_replay, 1, SCREEN_SIZE, 0 },
+    { "mishkolar_take_record", try_take_record, 1, SCREEN_SIZE, COUNTED },
+    { "mishkolar_replay", try_replay, 1, SCREEN_SIZE, REPLAYED },
     { "mishkolar_report", try_report, 0, SCREEN_SIZE, 0 },
     { "mishkolar_status_of_cause", try_status_of_cause, 0, SCREEN_SIZE, MET(0) | MET(21) },
     { "mishkolar_cause_of_status", try_cause_of_status, 0, SCREEN_SIZE, MET(0) | MET(22) },
@@ -455,6 +544,7 @@ int main(int argc, char **argv)
     size_t function, failures = 0;
     int i;
 
+    make_tables();
     make_messages();
     for (i = 1; i < argc; i++)
         read_recorded(argv[i]);
