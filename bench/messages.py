@@ -1,7 +1,9 @@
 #!/usr/bin/env python3
-"""Writes the benchmark's messages into a folder: messages.py FOLDER
+"""Writes the benchmark's messages into a folder, and its rows of hidden calls into another: messages.py FOLDER ROWS
 
 call            the build description's call in full
+call-open       the call without Privacy
+call-bye        the BYE of the call
 call-two        the call with a tel identity too, in the same field
 call-fields     the same in a field of its own, before the sip one
 call-200        a 200 to it, with as many bytes and fields
@@ -19,8 +21,24 @@ SHAPE-LENGTH    messages that ask for the most work, accepted, of 1,000 to 8,192
   tags          many required tags
   privacy       many tokens of Privacy, each as short as can be, the last one withholds the caller
   fields        96 fields
+
+A row is a byte for the side, or 2 for the end of a call, one for the reason, 1 where the table of calls changes or 0, the length of the Call-ID
+that an end has or 0, the table before, and the message, or the Call-ID and the tag of an end:
+
+side-0          the call to side 0, none held
+entered         the call, none held
+open            the call without Privacy, none held
+held, bye, end  the call, its BYE and its end, its pair being the only one held; held-last and so on: being the last of 32
+bye-unknown     the BYE, none held; bye-others: 32 others are held; and the same of end
+full            the call where 32 others are held
+full-alike      the same, where all 33 pairs are the longest and differ in their last byte alone
+full-sums       the same, where they differ in their last two bytes alone, whose sum is the same in all
+
+Where others are held, but for the last two, pairs are as they mostly are: a Call-ID of 30 bytes and a tag of 10, always drawn in the same way.
 """
 import os
+import random
+import string
 import sys
 
 LENGTHS = [1000, 2000, 3000, 4000, 6000, 8192]
@@ -41,6 +59,23 @@ Privacy: id
 l: 0
 
 """
+
+CALL_BYE = """BYE sip:+33123456789@gw.example SIP/2.0
+v: SIP/2.0/UDP relay.example;branch=z9hG4bK8
+Max-Forwards: 70
+f: <sip:+33187654321@relay.example>;tag=a1
+t: <sip:+33123456789@gw.example>;tag=b2
+i: 9x@relay.example
+CSeq: 2 BYE
+X-Relay-Mode: text
+l: 0
+
+"""
+
+CALL_OPEN = CALL.replace("Privacy: id\n", "")
+
+# Call-ID and From tag of all three.
+PAIR = ("9x@relay.example", "a1")
 
 SIP_IDENTITY = "P-Asserted-Identity: <sip:+33187654321@relay.example>"
 
@@ -197,16 +232,78 @@ def replaced(text, old, new):
     return text.replace(old, new)
 
 
-def main():
-    if len(sys.argv) != 2:
-        sys.exit(__doc__)
-    folder = sys.argv[1]
+PLACES = 32
+
+
+def table(pairs):
+    """The table of calls in which these pairs stand in the first places."""
+    places = [part for call_id, tag in pairs for part in (text_of(call_id, 128), text_of(tag, 64))]
+    return b"".join(places).ljust(PLACES * (1 + 128 + 1 + 64), b"\0")
+
+
+def text_of(text, most):
+    return bytes([len(text)]) + text.encode().ljust(most, b"\0")
+
+
+def usual_pairs():
+    """33 of them: the last one is that of the message."""
+    dice = random.Random(1)
+
+    def drawn(length):
+        return "".join(dice.choice(string.ascii_letters + string.digits) for _ in range(length))
+    return [(drawn(16) + "@relay.example", drawn(10)) for _ in range(PLACES + 1)]
+
+
+def alike_pairs(ends):
+    """33 pairs of the longest texts, whose tags have these ends."""
+    return [("i" * 128, "t" * (64 - len(end)) + end) for end in ends[:PLACES + 1]]
+
+
+def screening(side, reason, changes, pairs, message, own=PAIR):
+    """The row of this message with another pair in it."""
+    message = replaced(replaced(message, PAIR[0], own[0]), "tag=" + PAIR[1], "tag=" + own[1])
+    return bytes([side, reason, changes, 0]) + table(pairs) + crlf(message).encode()
+
+
+def ending(reason, pairs, own=PAIR):
+    return bytes([2, reason, reason == 0, len(own[0])]) + table(pairs) + "".join(own).encode()
+
+
+def rows_of_calls():
+    *others, usual = usual_pairs()
+    letters = string.ascii_uppercase + string.ascii_lowercase
+    *alike, another = alike_pairs(letters)
+    # The second letter falls as the first one rises.
+    *sums, one_more = alike_pairs([first + second for first, second in zip(letters, reversed(letters))])
+    rows = {
+        "side-0": screening(0, 0, 0, [], CALL), "entered": screening(1, 0, 1, [], CALL), "open": screening(1, 0, 0, [], CALL_OPEN),
+        "bye-unknown": screening(1, 0, 0, [], CALL_BYE), "bye-others": screening(1, 0, 0, others, CALL_BYE, usual),
+        "end-unknown": ending(19, []), "end-others": ending(19, others, usual), "full": screening(1, 18, 0, others, CALL, usual),
+        "full-alike": screening(1, 18, 0, alike, CALL, another), "full-sums": screening(1, 18, 0, sums, CALL, one_more),
+    }
+    for name, pairs, own in (("", [PAIR], PAIR), ("-last", others[1:] + [usual], usual)):
+        rows["held" + name] = screening(1, 0, 0, pairs, CALL, own)
+        rows["bye" + name] = screening(1, 0, 1, pairs, CALL_BYE, own)
+        rows["end" + name] = ending(0, pairs, own)
+    return rows
+
+
+def write(folder, files):
     os.makedirs(folder, exist_ok=True)
+    for name, data in files.items():
+        with open(os.path.join(folder, name), "wb") as f:
+            f.write(data)
+
+
+def main():
+    if len(sys.argv) != 3:
+        sys.exit(__doc__)
     sdp = crlf(SDP)
     invite = crlf(INVITE.format(length=len(sdp))) + sdp
     messages = {
         "call": crlf(CALL), "call-two": crlf(replaced(CALL, SIP_IDENTITY, SIP_IDENTITY + ", <tel:+33187654321>")),
         "call-fields": crlf(replaced(CALL, SIP_IDENTITY, "P-Asserted-Identity: <tel:+33187654321>\n" + SIP_IDENTITY)),
+        "call-open": crlf(CALL_OPEN), "call-bye": crlf(CALL_BYE),
         "call-200": crlf(CALL_200), "call-180": crlf(CALL_180), "invite": invite,
         "invite-200": crlf(INVITE_200.format(length=len(sdp))) + sdp,
         "refused-3": replaced(invite, " SIP/2.0\r\n", " SIP/2.1\r\n"), "refused-4": replaced(invite, "CSeq: ", "CSeq "),
@@ -216,9 +313,8 @@ def main():
     for shape in SHAPES:
         for length in LENGTHS:
             messages[f"{shape}-{length}"] = shaped(shape, length)
-    for name, text in messages.items():
-        with open(os.path.join(folder, name), "wb") as f:
-            f.write(text.encode("latin-1"))
+    write(sys.argv[1], {name: text.encode("latin-1") for name, text in messages.items()})
+    write(sys.argv[2], rows_of_calls())
 
 
 main()

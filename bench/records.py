@@ -1,7 +1,7 @@
 #!/usr/bin/env python3
 """Writes records of the benchmark's messages to standard output: records.py MESSAGES COUNT
 
-MESSAGES is the folder that messages.py writes. Of 100 records 90 are calls and the responses to them, nine are refused or unread messages,
+MESSAGES is the folder that messages.py writes. Of 100 records 90 are calls, their BYE and the responses to them, nine are refused or unread messages,
 and one is of a shape that asks for the most work, of 1,000 to 8,192 bytes; each goes to side 0 or 1. The draw is always the same, and
 fewer records are the first of more.
 """
@@ -9,7 +9,7 @@ import os
 import random
 import sys
 
-CALLS = ["call", "call-200", "call-180", "call-two", "call-fields", "invite", "invite-200"]
+CALLS = ["call", "call-open", "call-bye", "call-200", "call-180", "call-two", "call-fields", "invite", "invite-200"]
 
 
 def record(message, side):

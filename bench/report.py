@@ -1,9 +1,10 @@
 #!/usr/bin/env python3
 """Writes the benchmark's result: report.py WORK DOCS
 
-WORK is the folder of what was measured: messages; counts and times, as `measure` printed them; dump.N, callgrind's dumps for the counts; of
-the program replay records-COUNT, its memory-COUNT in kB, its dump-replay and microseconds, one line for each run. DOCS is the folder of
-PERFORMANCE.md and performance.svg. The tables stand between the two marker lines of PERFORMANCE.md; the rest of that file stays as it is.
+WORK is the folder of what was measured: messages, and rows of hidden calls; counts and times, as `measure` printed them; dump.N, callgrind's
+dumps for the counts; of the program replay records-COUNT, its memory-COUNT in kB, its dump-replay and microseconds, one line for each run.
+DOCS is the folder of PERFORMANCE.md and performance.svg. The tables stand between the two marker lines of PERFORMANCE.md; the rest of that
+file stays as it is.
 """
 import math
 import os
@@ -19,8 +20,8 @@ TITLES = {"mishkolar": "Mishkolar", "second": "second", "osip": "libosip2", "sof
 COLOURS = {"mishkolar": "#0b5fa5", "second": "#7a7a7a", "osip": "#c2571a", "sofia": "#2d7d46"}
 SHAPES = ["folds", "quoted", "parameters", "bare", "folded", "tags", "privacy", "fields"]
 WORDS = {
-    "call": "the build description's call", "call-two": "the call with a sip and a tel identity in one field",
-    "call-fields": "the same in two fields", "call-200": "a 200 to it", "call-180": "a 180 to it", "invite": "INVITE with a body",
+    "call": "the build description's call", "call-open": "the call without Privacy", "call-bye": "the BYE of the call",
+    "call-two": "the call with a sip and a tel identity in one field", "call-fields": "the same in two fields", "call-200": "a 200 to it", "call-180": "a 180 to it", "invite": "INVITE with a body",
     "invite-200": "a 200 to it with a body", "folds": "folds", "quoted": "one quoted string", "parameters": "parameters",
     "bare": "short parameters", "folded": "a fold before each parameter", "tags": "required tags", "privacy": "tokens of Privacy",
     "fields": "96 fields", "empty": "80 empty fields",
@@ -29,7 +30,19 @@ WORDS = {
     "home": "parameter at home", "abroad": "parameter not at home", "home-back": "caller of the parameter at home",
     "abroad-back": "caller of the parameter not at home", "status": "status of cause 17",
 }
-CALLS = ["call", "call-200", "call-180", "call-two", "call-fields", "invite", "invite-200", "refused-3", "refused-4", "refused-12"]
+CALLS = ["call", "call-200", "call-180", "call-open", "call-bye", "call-two", "call-fields", "invite", "invite-200"]
+CALLS += ["refused-3", "refused-4", "refused-12"]
+# Rows of hidden calls.
+HIDDEN = {
+    "side-0": "the call to side 0", "entered": "the call, none held: its pair is entered", "open": "the call without Privacy, none held",
+    "held": "the call, its pair held alone", "held-last": "the call, its pair the last of 32 usual ones",
+    "bye": "its BYE, the pair held alone: it is removed", "bye-last": "its BYE, the pair the last of 32 usual ones: it is removed",
+    "bye-unknown": "its BYE, none held", "bye-others": "its BYE, 32 others held", "full": "18: the call, 32 others held",
+    "full-alike": "18: the longest pairs, all alike but for the last byte",
+    "full-sums": "18: the longest pairs, all alike but for two bytes of the same sum",
+    "end": "the end of a call, its pair held alone", "end-last": "the end of a call, its pair the last of 32 usual ones",
+    "end-unknown": "19: the end of a call, none held", "end-others": "19: the end of a call, 32 others held",
+}
 # Tasks of the libraries alone; those that read no message, with the bytes that they read; and those that judge: a refusal is their answer.
 ALONE = ["calling", "count", "reading", "home", "abroad"]
 BACK = {"home-back": 7, "abroad-back": 8, "status": 0}
@@ -57,7 +70,7 @@ def instructions(dump):
 
 
 def read(work):
-    """Instructions and nanoseconds by message and task; None where the message is not taken, unless it is meant to be refused."""
+    """Instructions and nanoseconds by message or row and task; None where a message is not taken, unless it is meant to be refused."""
     result = {}
     for file, key in (("counts", "instructions"), ("times", "nanoseconds")):
         with open(os.path.join(work, file)) as f:
@@ -65,7 +78,7 @@ def read(work):
                 path, name, taken, number = line.split()
                 message = os.path.basename(path)
                 number = instructions(os.path.join(work, f"dump.{number}")) if key == "instructions" else int(number)
-                answered = taken == "1" or (message.startswith("refused-") and name in JUDGES)
+                answered = taken == "1" or message in HIDDEN or (message.startswith("refused-") and name in JUDGES)
                 result[(message, name, key)] = number if answered else None
     return result
 
@@ -113,6 +126,14 @@ def table(result, folder, key):
     shaped = ["empty"] + [f"{shape}-{length}" for shape in SHAPES for length in LENGTHS]
     rows += [row_of_all(result, folder, message, key) for message in shaped]
     return lines + ["| " + " | ".join(cells) + " |" for cells in rows]
+
+
+def table_of_hidden(result):
+    lines = ["| Hidden calls | Mishkolar | second | Mishkolar, ns | second, ns |", "|---|" + "--:|" * 4]
+    for row, title in HIDDEN.items():
+        cells = [title] + [number(result[(row, name, key)]) for key in ("instructions", "nanoseconds") for name in JUDGES]
+        lines.append("| " + " | ".join(cells) + " |")
+    return lines
 
 
 def numbers(work, file):
@@ -174,6 +195,8 @@ def document(result, work):
     lines += table(result, folder, "instructions")
     lines += ["", "Nanoseconds, the median of 201 batches of at least 50 microseconds each:", ""]
     lines += table(result, folder, "nanoseconds")
+    lines += ["", "One screening, or one end of a call, with the table of hidden calls named, in instructions and in nanoseconds as above:", ""]
+    lines += table_of_hidden(result)
     lines += ["", "One record counted by the library, beside the screening of the same message, in instructions and in nanoseconds as above:", ""]
     lines += table_of_records(result, folder)
     lines += ["", "The program `replay` on mixed records of these messages:", ""]
