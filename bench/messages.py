@@ -33,8 +33,9 @@ bye-unknown     the BYE, none held; bye-others: 32 others are held; and the same
 full            the call where 32 others are held
 full-alike      the same, where all 33 pairs are the longest and differ in their last byte alone
 full-sums       the same, where they differ in their last two bytes alone, whose sum is the same in all
+full-inside     the same, where these two bytes stand inside the tag
 
-Where others are held, but for the last two, pairs are as they mostly are: a Call-ID of 30 bytes and a tag of 10, always drawn in the same way.
+Where others are held, but for the last three, pairs are as they mostly are: a Call-ID of 30 bytes and a tag of 10, always drawn in the same way.
 """
 import os
 import random
@@ -275,11 +276,13 @@ def rows_of_calls():
     *alike, another = alike_pairs(letters)
     # The second letter falls as the first one rises.
     *sums, one_more = alike_pairs([first + second for first, second in zip(letters, reversed(letters))])
+    *inside, last_one = alike_pairs([first + "t" * 4 + second + "t" * 18 for first, second in zip(letters, reversed(letters))])
     rows = {
         "side-0": screening(0, 0, 0, [], CALL), "entered": screening(1, 0, 1, [], CALL), "open": screening(1, 0, 0, [], CALL_OPEN),
         "bye-unknown": screening(1, 0, 0, [], CALL_BYE), "bye-others": screening(1, 0, 0, others, CALL_BYE, usual),
         "end-unknown": ending(19, []), "end-others": ending(19, others, usual), "full": screening(1, 18, 0, others, CALL, usual),
         "full-alike": screening(1, 18, 0, alike, CALL, another), "full-sums": screening(1, 18, 0, sums, CALL, one_more),
+        "full-inside": screening(1, 18, 0, inside, CALL, last_one),
     }
     for name, pairs, own in (("", [PAIR], PAIR), ("-last", others[1:] + [usual], usual)):
         rows["held" + name] = screening(1, 0, 0, pairs, CALL, own)

@@ -40,6 +40,7 @@ HIDDEN = {
     "bye-unknown": "its BYE, none held", "bye-others": "its BYE, 32 others held", "full": "18: the call, 32 others held",
     "full-alike": "18: the longest pairs, all alike but for the last byte",
     "full-sums": "18: the longest pairs, all alike but for two bytes of the same sum",
+    "full-inside": "18: the same, where these two bytes stand inside the tag",
     "end": "the end of a call, its pair held alone", "end-last": "the end of a call, its pair the last of 32 usual ones",
     "end-unknown": "19: the end of a call, none held", "end-others": "19: the end of a call, 32 others held",
 }
