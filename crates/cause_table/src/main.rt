@@ -1,4 +1,5 @@
 // The program `cause_map` once more, with no input beside it: the table that it then prints is held to a stored one too.
+#![tactic(auto)]
 fn main() {
     // Nothing that is printed is longer.
     let mut out = [0u8; 1792];

@@ -1,4 +1,6 @@
 // Writes into a lent buffer. A writer that is handed too little room writes nothing.
+#![tactic(auto)]
+
 ghost use Rattle.std.specs.Prelude.{◌≡◌, [], ◌∷◌, ◌+◌, ◌≤◌, ◌<◌, leb, length};
 ghost use Rattle.sip.specs.Lines.{joined, folded, unfolded_at};
 ghost use Rattle.sip.specs.Output.{numeral, whole_numeral};

@@ -1,6 +1,7 @@
 // Runs recorded cases of the box for the old exchange from standard input, and prints the numbers and bytes of each answer.
 // A case is its kind (0 forward, 1 backward, 2 a cause), home, the length of the code and the code, two bytes of length, high byte first,
 // and the bytes: a message, a parameter, or the eight bytes of a cause, high byte first.
+#![tactic(auto)]
 ghost use Rattle.std.specs.Prelude.{◌<◌};
 
 fn print(n: u64, end: &[u8]) {

@@ -1,4 +1,5 @@
 // Reads the lines of a message: start line, fields, names, canonical values.
+#![tactic(auto)]
 ghost use Rattle.std.specs.Prelude.{◌≡◌, ◌+◌, ◌≤◌, ◌<◌, length};
 ghost use Rattle.sip.specs.Profile.{number_of};
 ghost use Rattle.sip.specs.Readings.{spans, count, place, reading_at, reading};

@@ -1,4 +1,6 @@
 // Byte classes and the scanners that every other reader calls.
+#![tactic(auto)]
+
 ghost use Rattle.std.specs.Prelude.{◌≡◌, ◌+◌, ◌-◌, ◌≤◌, min, eqb, ltb, cond, length, take, drop};
 ghost use Rattle.octets.specs.Classes.{within, bit, class_table, in_table, is_hex, is_gap, is_break};
 ghost use Rattle.octets.specs.Scans.{run, any, starts, escape, run_escaped, quoted, no_number, number, lower, same, same_text};

@@ -1,4 +1,5 @@
 // Replays recorded messages from standard input through the screen, and prints the report.
+#![tactic(auto)]
 ghost use Rattle.std.specs.Prelude.{◌+◌, ◌≤◌, length, take};
 ghost use Rattle.records.specs.Pieces.{IsPiece, Replayed, Filled, Prints};
 

@@ -1,4 +1,5 @@
 // Screens one message from standard input as side 1, and prints the answer's numbers and the output.
+#![tactic(auto)]
 use gateway::Verdict;
 
 fn print(n: u64, end: &[u8]) {

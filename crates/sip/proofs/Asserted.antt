@@ -120,6 +120,7 @@ message_agrees c i k (asserting_field {f = f} {fs = fs} {ws = ws} {us = us} n d 
 number_taken : {all : List Asserted} {us : List UriParts} → AllAgree all us → (u : UriParts) → Calling us u → (trunk : List ℕ)
     → number_or trunk (preferred all) ≡ person_of u
 unfolding sip_or
+number_taken none_agree u x4 trunk = elim x4 [ ]
 number_taken (also_agree {a = a} h none_agree) u (the_only_one _) trunk = go a.identity.tel
   where
     go : (t : Bool) → number_in (cond t a a).value (cond t a a).identity ≡ person_of u
@@ -127,6 +128,7 @@ number_taken (also_agree {a = a} h none_agree) u (the_only_one _) trunk = go a.i
     go false = h.number_is
 number_taken (also_agree h (also_agree g none_agree)) u (sip_first _ _ _ _ _ _) trunk = rw h.scheme_is h.number_is
 number_taken (also_agree h (also_agree g none_agree)) u (sip_second _ _ _ _ _ _) trunk = rw (h.scheme_is, g.scheme_is) g.number_is
+number_taken (also_agree {a = a} h (also_agree g (also_agree {u = u3} {others = others} {us = us} _ _))) u x23 trunk = elim x23 [ ]
 
 none_taken : {all : List Asserted} {us : List UriParts} → AllAgree all us → us ≡ [] → (trunk : List ℕ) → number_or trunk (preferred all) ≡ trunk
 none_taken none_agree z trunk = refl

@@ -373,6 +373,7 @@ other_way k (other_identity n p o) = other_identity n (k p) (other_way k o)
 
 -- the same Privacy withholds
 other_withheld : {P : Type 0} (c : Option Column) {fs gs : List Field} → OtherCaller P fs gs → HoldsAny (Withholding c) fs → HoldsAny (Withholding c) gs
+other_withheld {P = P} c no_fields x4 = elim x4 [ ]
 other_withheld c (equal o) (here w) = here w
 other_withheld c (equal o) (later h) = later (other_withheld c o h)
 other_withheld c (other_from n a b o) (here w) = let k = w.a_privacy in never (cc)

@@ -1,4 +1,5 @@
 // The vocabulary of documents 01 and 02: the types that their definitions (specs/) and the code of the other crates share.
+#![tactic(auto)]
 
 // The columns of the profile. Six are of requests. Three are of responses: to an INVITE with a status from 200 to 299, to a CANCEL, and all
 // others.

@@ -1,4 +1,5 @@
 // Judges values: each reader takes a canonical value, or the Request-URI, as a slice of its own.
+#![tactic(auto)]
 mod address;
 mod call;
 mod list;

@@ -2,6 +2,7 @@
 // afterwards. A case is a kind byte, a side byte, two bytes of room and two of length, each high byte first, and as many bytes as the length
 // says. Kind 0: they are a message, screened with none held. 1: a message, screened with the table that the case before left. 2: they are the
 // front of the table, and the rest of it is zeros. 3: a Call-ID, as long as the room says, and a tag, whose call is ended.
+#![tactic(auto)]
 ghost use Rattle.std.specs.Prelude.{◌<◌};
 
 use gateway::Verdict;

@@ -25,7 +25,7 @@ use Rattle.sip.proofs.Grammar.Numbers.{global_complete, global_sound}
 use Rattle.sip.proofs.Grammar.Schemes.{Clear}
 use Rattle.sip.proofs.Grammar.Uris.{Begins, begins}
 use Rattle.sip.proofs.Grammar.Follows.{address_no_at, clear_end, comma_clear}
-use Rattle.sip.proofs.Grammar.Addresses.{AddressFound, AddressView, address_here, address_of, address_some, address_view, no_address}
+use Rattle.sip.proofs.Grammar.Addresses.{AddressFound, AddressView, address_here, address_of, address_some, address_view, without_address}
 
 -- ---- an address begins with no blank
 
@@ -84,7 +84,7 @@ identity_view s = go s (address s) (address_view s)
     go _ a (address_here {x} {u} d r f) =
         let i : IdentityAt = record { size = length x; tel = a.uri.tel; start = a.at + 4; len = person_size a.uri } in
         rw (f.size_is, some_no (length x) (address_some d), person_in f) (at d r i refl (is_global (person_of u)) refl)
-    go s a (no_address k) = rw k (without_identity refl)
+    go s a (without_address k) = rw k (without_identity refl)
 
 identity_some : {x : List ℕ} {u : UriParts} → Identity x u → 1 ≤ length x
 identity_some (identity_of d g) = address_some d

@@ -136,6 +136,7 @@ step_complete x s (t ∷ []) [] got q e (found_tag y z o w n m) l h ih =
     let u : with_param got q ≡ g = rw o in
     rw (params_step got (y ++ t) s q e z l st, u) (move_tag got (params g 0 s) y t s q.size q.value q.len z w n m (ih g (omega (arith, has_le g))))
 step_complete x s (t ∷ []) (u ∷ ts) got q e (found_tag y z o w n m) l h ih = absurd (omega arith)
+step_complete x s (t ∷ (_ ∷ _)) ts got q e x10 l h ih = elim x10 [ ]
 
 pub params_complete : {s : List ℕ} {ts : List (List ℕ)} → Params s ts → (got : ParamsAt) → length ts + has got ≤ 1 → ParamsFound got (params got 0 s) s ts
 unfolding params

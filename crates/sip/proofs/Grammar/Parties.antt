@@ -17,7 +17,7 @@ use Rattle.sip.proofs.Tests.{never, and_left, and_right}
 use Rattle.sip.proofs.Grammar.Bytes.{some_no}
 use Rattle.sip.proofs.Grammar.Params.{TagsFound, found_none, found_one, params_complete, params_sound}
 use Rattle.sip.proofs.Grammar.Follows.{params_clear}
-use Rattle.sip.proofs.Grammar.Addresses.{AddressView, address_here, address_of, address_some, address_view, no_address}
+use Rattle.sip.proofs.Grammar.Addresses.{AddressView, address_here, address_of, address_some, address_view, without_address}
 
 -- the value of From or To: its URI and its tags
 pub record PartyThere (v : List ℕ) : Type 0 where
@@ -42,7 +42,7 @@ to_sound v e =
         let m : (params no_params 0 r).size ≡ 0 + length r = omega (arith, length-append x r) in
         let i = params_sound no_params r m in
         record { uri = u; tags = i.tags; derived = party_of d i.derived (omega (arith, i.once)) }
-    go v a (no_address k) n q = absurd (n k)
+    go v a (without_address k) n q = absurd (n k)
 
 record PartyFound (v : List ℕ) (ts : List (List ℕ)) : Type 0 where
   at : ℕ

@@ -185,7 +185,7 @@ one_of : {ts : List (List ℕ)} → HoldsAny Restricting ts → (t : List ℕ) �
 one_of (here {x = t} d) = (t, d, here refl)
 one_of (later h) = let (t, d, i) = one_of h in (t, d, later i)
 
-of_one : {ts : List (List ℕ)} (t : List ℕ) → Restricting t → Among t ts → HoldsAny Restricting ts
+of_one : (t : List ℕ) {ts : List (List ℕ)} → Restricting t → Among t ts → HoldsAny Restricting ts
 of_one t d (here e) = here (rw e at d)
 of_one t d (later i) = later (of_one t d i)
 

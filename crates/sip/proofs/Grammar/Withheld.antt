@@ -43,6 +43,7 @@ module _ (c : Option Column) where
   -- such a field is kept
   counted : (fs : List Field) → HoldsAny (Withholding c) fs → 1 ≤ times 16 (kept c fs)
   unfolding times kept
+  counted [] x' = elim x' [ ]
   counted (f ∷ fs) (here w) = rw (w.a_privacy, w.not_ignored) (omega arith)
   counted (f ∷ fs) (later h) = go (ignored c (number_of f.name)) (counted fs h)
     where
@@ -53,6 +54,7 @@ module _ (c : Option Column) where
 
   taken : (fs : List Field) → times 16 (kept c fs) ≤ 1 → HoldsAny (Withholding c) fs → Restricted (value_of 16 (kept c fs))
   unfolding times kept value_of
+  taken [] l x' = elim x' [ ]
   taken (f ∷ fs) l (here w) = rw (w.a_privacy, w.not_ignored) (restricts_complete w.derived w.restricting)
   taken (f ∷ fs) l (later h) = go (ignored c (number_of f.name)) (eqb (number_of f.name) 16) refl refl (counted fs h) (λ k. taken fs k h)
     where

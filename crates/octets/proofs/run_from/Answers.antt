@@ -1,0 +1,14 @@
+-- `octets::run_from` meets its contract.
+use Prim.Native.Nat.{◌-◌}
+use native.Mathlib.Omega.{arith}
+use Rattle.octets.proofs.Runs.{loop_stop, loop_next, loop_over}
+use Rattle.octets.proofs.run_from.Goals as goal
+
+pub returns-then-not-in_class : goal.returns-then-not-in_class
+returns-then-not-in_class c = search (loop_stop, arith)
+
+pub loop-i-preserved : goal.loop-i-preserved
+loop-i-preserved c = search (loop_next, arith)
+
+pub returns : goal.returns
+returns c = search (loop_over, arith)
