@@ -4,7 +4,7 @@ ghost use Rattle.std.specs.Prelude.{◌≡◌};
 ghost use Rattle.causes.specs.Causes.{class_ends, next_above, row_of, status_of, status, cause_of, cause};
 
 // The status for a cause value and the cause whose row gave it, or status 0, row 0 and refusal 21.
-#[derive(Drop)]
+#[derive(Clone, Copy)]
 pub struct StatusAnswer {
     pub status: u64,
     pub row: u64,
@@ -12,7 +12,7 @@ pub struct StatusAnswer {
 }
 
 // The cause value for a status, or cause 0 and refusal 22.
-#[derive(Drop)]
+#[derive(Clone, Copy)]
 pub struct CauseAnswer {
     pub cause: u64,
     pub refusal: u64,

@@ -26,7 +26,7 @@ mod output;
 mod remembered;
 
 // The verdict is a choice: accepted with its length, or refused with those numbers.
-#[derive(Drop)]
+#[derive(Clone, Copy)]
 pub enum Verdict {
     Accepted(usize),
     Refused(Refusal),
@@ -34,7 +34,7 @@ pub enum Verdict {
 
 // What the table of calls says of an accepted message. Shown: nothing, and it goes out as it is. Hidden: its pair is held. Ending: its pair is
 // held, and it is a BYE. New: its caller is withheld and its pair is not held; it is entered at this place. TooMany: there is none (reason 18).
-#[derive(Drop)]
+#[derive(Clone, Copy)]
 pub(crate) enum CallState {
     Shown,
     Hidden,
@@ -45,7 +45,7 @@ pub(crate) enum CallState {
 
 // What of the outgoing message the kept values do not say by themselves: whether the caller is masked, what Max-Forwards says, the length
 // of the body, and where the tag stands in From's value.
-#[derive(Drop)]
+#[derive(Clone, Copy)]
 pub(crate) struct Sending {
     pub masked: bool,
     pub hops: usize,

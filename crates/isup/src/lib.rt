@@ -13,7 +13,7 @@ mod encode;
 mod forward;
 
 // The parameter: why there is none (reason 0: there is one), its length, and its octets, 0 past them.
-#[derive(Drop)]
+#[derive(Clone, Copy)]
 pub struct Parameter {
     pub refusal: Refusal,
     pub len: usize,
@@ -22,7 +22,7 @@ pub struct Parameter {
 
 // What a parameter gives: why it gives nothing (refusal 0: it does), whether a Privacy `id` goes with the number, and the number with its `+`,
 // 0 past it.
-#[derive(Drop)]
+#[derive(Clone, Copy)]
 pub struct Caller {
     pub refusal: u64,
     pub id: bool,
@@ -31,7 +31,7 @@ pub struct Caller {
 }
 
 // What a cause from the trunk becomes: the status of a reply, or status 0 and refusal 21.
-#[derive(Drop)]
+#[derive(Clone, Copy)]
 pub struct Status {
     pub status: u64,
     pub refusal: u64,

@@ -18,7 +18,7 @@ mod sets;
 mod tallies;
 
 // Why a message is refused: the pages' reason, reply, detail and missing count.
-#[derive(Drop)]
+#[derive(Clone, Copy)]
 pub struct Refusal {
     pub reason: u64,
     pub reply: u64,
@@ -27,14 +27,14 @@ pub struct Refusal {
 }
 
 // The column of a request's method, the initial one for an INVITE.
-#[derive(Drop)]
+#[derive(Clone, Copy)]
 pub(crate) enum ColumnOf {
     Is(sip::Column),
     Unknown,
 }
 
 // Which mandatory fields are missing: how many, and the lowest number (0: none is).
-#[derive(Drop)]
+#[derive(Clone, Copy)]
 pub(crate) struct Lack {
     pub count: u64,
     pub lowest: u64,
@@ -45,7 +45,7 @@ pub(crate) struct Lack {
 // Require: start is the place of the first tag that we lack (0: none), len the number of tags. P-Asserted-Identity: the set of the schemes
 // of its identities, 1 for sip and 2 for tel (0 of other fields), and where the number stands that it tells. Privacy: start is the place
 // of the first token that withholds the caller (0: none).
-#[derive(Drop)]
+#[derive(Clone, Copy)]
 pub(crate) struct Finding {
     pub good: bool,
     pub schemes: u32,
@@ -57,7 +57,7 @@ pub(crate) struct Finding {
 // first malformed one; what the first Max-Forwards, To (the length of its tag), Privacy (the place of its first token that withholds the
 // caller), Content-Length and From say; the required tags counted, and the place of the first that we lack; where the caller's number
 // stands. All are numbers: a bool among them is copied with its padding.
-#[derive(Drop)]
+#[derive(Clone, Copy)]
 pub(crate) struct Tally {
     pub seen: u32,
     pub schemes: u32,
@@ -78,7 +78,7 @@ pub(crate) struct Tally {
 // many slots there are; the set of fields that it keeps, what its Max-Forwards says, the length of its body, whether its caller is
 // withheld, where the tag stands in its From (no part where it has none), and where the caller's number stands in its P-Asserted-Identity
 // fields, both in the canonical value.
-#[derive(Drop)]
+#[derive(Clone, Copy)]
 pub struct Judged {
     pub refusal: Refusal,
     pub silent: bool,

@@ -112,7 +112,7 @@ pub(crate) fn colon_end(table: &[u8; 256], s: &[u8], at: usize) -> usize
 }
 
 // Where a value ends, and whether it goes over several lines. It ends at the end of the text where its shape is bad.
-#[derive(Drop)]
+#[derive(Clone, Copy)]
 pub(crate) struct ValueAt {
     pub end: usize,
     pub folded: bool,

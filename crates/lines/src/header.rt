@@ -10,7 +10,7 @@ use crate::start::Lengths;
 use crate::{Message, Slot, field, named, start, value};
 
 // How the fields end: the reason why they are not read, or 0; where the rest starts; how many listed fields have a slot.
-#[derive(Drop)]
+#[derive(Clone, Copy)]
 pub(crate) struct Ended {
     pub reason: u64,
     pub rest: usize,

@@ -1,5 +1,6 @@
 // Reads the lines of a message: start line, fields, names, canonical values.
 #![tactic(auto)]
+
 ghost use Rattle.std.specs.Prelude.{◌≡◌, ◌+◌, ◌≤◌, ◌<◌, length};
 ghost use Rattle.sip.specs.Profile.{number_of};
 ghost use Rattle.sip.specs.Readings.{spans, count, place, reading_at, reading};
@@ -25,7 +26,7 @@ mod words;
 
 // The start line at the front of a text: a request line by the lengths of its method and its Request-URI, or a status line by that of its
 // phrase.
-#[derive(Drop)]
+#[derive(Clone, Copy)]
 pub enum StartAt {
     Request { method: usize, uri: usize },
     Status { phrase: usize },
@@ -34,7 +35,7 @@ pub enum StartAt {
 
 // The field at a place of a text: where its name ends, where its value starts and ends, and whether the value goes over several lines.
 // The CRLF that ends the field stands at `end`.
-#[derive(Drop)]
+#[derive(Clone, Copy)]
 pub enum FieldAt {
     Found {
         name: usize,
@@ -47,7 +48,7 @@ pub enum FieldAt {
 
 // A listed field of a message: its number, where its value stands without the spaces, tabs and line breaks at both ends, and whether
 // there is a line break in it.
-#[derive(Drop)]
+#[derive(Clone, Copy)]
 pub struct Slot {
     pub number: usize,
     pub start: usize,
@@ -57,7 +58,7 @@ pub struct Slot {
 
 // A message by its lines: the reason of 2 to 5 why it is not read, or 0; the lengths of method and Request-URI (a response has neither: both
 // are 0 then) and of the start line; where the rest starts, after the empty line; how many listed fields there are.
-#[derive(Drop)]
+#[derive(Clone, Copy)]
 pub struct Message {
     pub reason: u64,
     pub method: usize,

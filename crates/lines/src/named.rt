@@ -6,7 +6,7 @@ ghost use Rattle.lines.specs.Places.{named_at};
 use crate::{field, known, scan};
 
 // The number of the name, 0 where it is not listed, and where the value starts: at the place itself where its shape is bad.
-#[derive(Drop)]
+#[derive(Clone, Copy)]
 pub(crate) struct Named {
     pub number: usize,
     pub value: usize,

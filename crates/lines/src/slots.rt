@@ -51,7 +51,7 @@ pub(crate) fn at_most_96(count: usize) -> usize
 }
 
 // How many fields there are of a number, and where the value of the k-th of them stands.
-#[derive(Drop)]
+#[derive(Clone, Copy)]
 pub(crate) struct Counted {
     pub count: usize,
     pub span: Span,

@@ -55,7 +55,7 @@ fn uri_size(table: &[u8; 256], s: &[u8], at: usize) -> usize
 
 // A start line by its lengths: those of the method and the Request-URI, which a response has not, and that of the line. All are 0 where
 // no start line stands.
-#[derive(Drop)]
+#[derive(Clone, Copy)]
 pub(crate) struct Lengths {
     pub method: usize,
     pub uri: usize,

@@ -8,7 +8,7 @@ ghost use Rattle.octets.specs.Scans.{run, any, starts, escape, run_escaped, quot
 mod table;
 
 // A run of digits: how many there are, and the number that they write. Size 0 where no good number stands there.
-#[derive(Drop)]
+#[derive(Clone, Copy)]
 pub struct NumberAt {
     pub size: usize,
     pub value: u64,

@@ -3,7 +3,7 @@
 
 // The columns of the profile. Six are of requests. Three are of responses: to an INVITE with a status from 200 to 299, to a CANCEL, and all
 // others.
-#[derive(Drop)]
+#[derive(Clone, Copy)]
 pub enum Column {
     Invite,
     Reinvite,
@@ -18,7 +18,7 @@ pub enum Column {
 
 // A URI at the front of a text: its size with the tail, whether it is a tel URI, how many bytes after `sip:` are the user (0: there is
 // none), and where the tail starts. Size 0: no URI stands there.
-#[derive(Drop)]
+#[derive(Clone, Copy)]
 pub struct UriAt {
     pub size: usize,
     pub tel: bool,
@@ -27,7 +27,7 @@ pub struct UriAt {
 }
 
 // An address at the front of a text: its size, and where its URI starts. Size 0: no address stands there.
-#[derive(Drop)]
+#[derive(Clone, Copy)]
 pub struct AddressAt {
     pub size: usize,
     pub at: usize,
@@ -35,7 +35,7 @@ pub struct AddressAt {
 }
 
 // A parameter at the front of a text: its size, whether it is the tag, and where its value stands. Size 0: no parameter stands there.
-#[derive(Drop)]
+#[derive(Clone, Copy)]
 pub struct ParamAt {
     pub size: usize,
     pub tag: bool,
@@ -44,7 +44,7 @@ pub struct ParamAt {
 }
 
 // Parameters at the front of a text: their size, and where the tag stands (len 0: there is no tag).
-#[derive(Drop)]
+#[derive(Clone, Copy)]
 pub struct ParamsAt {
     pub size: usize,
     pub tag: usize,
@@ -52,7 +52,7 @@ pub struct ParamsAt {
 }
 
 // A whole value of From or To: whether it is well formed, and where its tag stands (len 0: there is no tag).
-#[derive(Drop)]
+#[derive(Clone, Copy)]
 pub struct PartyAt {
     pub good: bool,
     pub tag: usize,
@@ -60,7 +60,7 @@ pub struct PartyAt {
 }
 
 // An asserted identity in a text: its size, whether it is a tel URI, and where its number stands. Size 0: no identity stands there.
-#[derive(Drop)]
+#[derive(Clone, Copy)]
 pub struct IdentityAt {
     pub size: usize,
     pub tel: bool,
@@ -70,7 +70,7 @@ pub struct IdentityAt {
 
 // Where the number of an asserted identity stands: in which of the P-Asserted-Identity fields, from 1, and where in the canonical value of
 // that field. Field 0: there is none.
-#[derive(Drop)]
+#[derive(Clone, Copy)]
 pub struct CallerAt {
     pub field: usize,
     pub start: usize,
@@ -78,7 +78,7 @@ pub struct CallerAt {
 }
 
 // A part of a text. An empty part starts at 0.
-#[derive(Drop)]
+#[derive(Clone, Copy)]
 pub struct Span {
     pub start: usize,
     pub len: usize,
@@ -86,7 +86,7 @@ pub struct Span {
 
 // The calling number as a part: whether it is a part of the trunk number or of the message, and where it stands. An empty part starts
 // at 0, and is said to be of the message.
-#[derive(Drop)]
+#[derive(Clone, Copy)]
 pub struct CallingAt {
     pub from_trunk: bool,
     pub start: usize,

@@ -1,5 +1,6 @@
 // Judges values: each reader takes a canonical value, or the Request-URI, as a slice of its own.
 #![tactic(auto)]
+
 mod address;
 mod call;
 mod list;
@@ -13,7 +14,7 @@ ghost use Rattle.sip.specs.Values.{is_cseq, is_call_id, uri, is_global, party};
 ghost use Rattle.values.specs.Answers.{whole_number, request_uri, privacy_at, require_at, asserted_at};
 
 // The Request-URI: its scheme is a token but neither sip nor tel; it is a URI from end to end; what it calls is a number.
-#[derive(Drop)]
+#[derive(Clone, Copy)]
 pub struct RequestUri {
     pub other: bool,
     pub good: bool,
@@ -21,7 +22,7 @@ pub struct RequestUri {
 }
 
 // A list of tokens: whether it is one, how many tokens it has, and the place, from 1, of the first that is looked for (0: none is).
-#[derive(Drop)]
+#[derive(Clone, Copy)]
 pub struct ListAt {
     pub good: bool,
     pub count: usize,
@@ -30,7 +31,7 @@ pub struct ListAt {
 
 // P-Asserted-Identity: the set of the schemes of its identities, 1 for sip and 2 for tel (0: the value is malformed), and where the number
 // of its sip identity stands, or of the only one.
-#[derive(Drop)]
+#[derive(Clone, Copy)]
 pub struct AssertedAt {
     pub schemes: u32,
     pub start: usize,

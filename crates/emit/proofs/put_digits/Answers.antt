@@ -1,4 +1,4 @@
--- `emit::put_digits` meets its contract. The invariant: the i digits that are left, put now, give what all of them, put at once, would give.
+-- `emit::put_digits` meets its contract.
 use mathlib.Core.Path.{◌≡◌, sym, ◌∙◌}
 use mathlib.Core.List.{List, [], ◌∷◌, ◌++◌}
 use Prim.Native.Nat.{ℕ, suc, ◌+◌, ◌-◌, ◌/◌, ◌≤◌, ◌<◌}
@@ -9,8 +9,7 @@ use Rattle.emit.specs.Put.{put_at, Wrote}
 use Rattle.emit.specs.Digits.{last, lowest}
 use Rattle.emit.proofs.Laws.{next_room, put_nil, put_last}
 use Rattle.emit.proofs.Numerals.{lowest_length}
-use Rattle.emit.proofs.put_digits.Statement.{statement}
-use Rattle.emit.proofs.put_digits.Tie as tie
+use Rattle.emit.proofs.put_digits.Goals as goal
 
 module _ (d : List ℕ) (at n size : ℕ) (h : at + size ≤ length d) (o : List ℕ) (left i : ℕ) (e : put_at o at (lowest i left) ≡ put_at d at (lowest size n)) where
   again : {j b x : ℕ} → 0 < i → i ≤ size → length o ≡ length d → j ≡ i - 1 → b ≡ last left → x ≡ left / 10
@@ -32,55 +31,8 @@ module _ (d : List ℕ) (at n size : ℕ) (h : at + size ≤ length d) (o : List
       let f : put_at o at [] ≡ put_at d at (lowest size n) = rw s at e in
       record { next = omega (arith, next_room d at (lowest size n) (omega (arith, w)), w); holds = sym (put_nil o at) ∙ f }
 
-abbrev invariant-loop : tie.invariant-loop
-invariant-loop out₀ at n size left₀ i₀ out left i = (i ≤ size) × (length out ≡ length out₀) × (put_at out at (lowest i left) ≡ put_at out₀ at (lowest size n))
+pub loop-i-preserved : goal.loop-i-preserved
+loop-i-preserved c = search (again, length-set, rules)
 
-abbrev decreases-loop : tie.decreases-loop
-decreases-loop out₀ at n size left₀ i₀ out left i = i
-
-loop-holds : tie.Need-loop-init invariant-loop decreases-loop
-loop-holds c = search rules
-
-sub-i : tie.Need-overflow-sub-i invariant-loop decreases-loop
-sub-i c = search rules
-
-digit-requires : tie.Need-digit-requires invariant-loop decreases-loop
-digit-requires c κs = search rules
-
-add-out : tie.Need-overflow-add-out invariant-loop decreases-loop
-add-out c = search rules
-
-slice-write-out : tie.Need-slice-write-out invariant-loop decreases-loop
-slice-write-out c = search rules
-
-loop-less : tie.Need-loop-smaller invariant-loop decreases-loop
-loop-less c = search rules
-
-loop-again : tie.Need-loop-preserved invariant-loop decreases-loop
-loop-again c = search (again, length-set, rules)
-
-add-result : tie.Need-overflow-add-result invariant-loop decreases-loop
-add-result c = search rules
-
-same_length : tie.Need-same-length invariant-loop decreases-loop
-same_length c = search rules
-
-returns : tie.Need-returns invariant-loop decreases-loop
+pub returns : goal.returns
 returns c = search finish
-
-pub put-digits-spec : {M : Type 1} → statement M
-put-digits-spec =
-    tie.close
-    (tie.spec
-    invariant-loop
-    decreases-loop
-    loop-holds
-    sub-i
-    digit-requires
-    add-out
-    slice-write-out
-    loop-less
-    loop-again
-    add-result
-    same_length
-    returns)

@@ -5,15 +5,13 @@ use mathlib.Core.List.{List, [], ◌∷◌}
 use Prim.Native.Nat.{ℕ, ◌+◌, ◌≤◌, ◌<◌}
 use native.Mathlib.Omega.{arith}
 use lib.ListN.{length}
-use borrow.Author.Rules.{rules}
 use Rattle.octets.specs.Classes.{is_break}
 use Rattle.octets.specs.Scans.{any}
 use Rattle.sip.specs.Lines.{joined}
 use Rattle.emit.specs.Put.{Wrote}
 use Rattle.emit.proofs.Laws.{wrote_as}
 use Rattle.emit.proofs.Pieces.{joined_space, joined_same}
-use Rattle.emit.proofs.put_joined.Statement.{statement}
-use Rattle.emit.proofs.put_joined.Tie as tie
+use Rattle.emit.proofs.put_joined.Goals as goal
 
 module _ (g : List ℕ) {t : Bool} (e : t ≡ any is_break g) (d : List ℕ) (at : ℕ) where
   module _ (h : at + length (joined g) ≤ length d) where
@@ -30,35 +28,14 @@ module _ (g : List ℕ) {t : Bool} (e : t ≡ any is_break g) (d : List ℕ) (at
     same : t ≡ false → Wrote d at g r d' → Wrote d at (joined g) r d'
     same q w = wrote_as w (joined g) (sym (joined_same g e q))
 
-has-break-requires : tie.Need-has-break-requires
-has-break-requires c κs = search rules
+pub put_byte-requires : goal.put_byte-requires
+put_byte-requires c = search space_fits
 
-put-byte-requires : tie.Need-put-byte-requires
-put-byte-requires c κs = search space_fits
+pub returns-then-has_break : goal.returns-then-has_break
+returns-then-has_break c = search space
 
-same_length : tie.Need-same-length
-same_length c = search rules
+pub copy-requires : goal.copy-requires
+copy-requires c = search same_fits
 
-returns : tie.Need-returns
-returns c = search space
-
-copy-requires : tie.Need-copy-requires
-copy-requires c κs = search same_fits
-
-same-length-2 : tie.Need-same-length-2
-same-length-2 c = search rules
-
-returns-2 : tie.Need-returns-2
-returns-2 c = search same
-
-pub put-joined-spec : {M : Type 1} → statement M
-put-joined-spec =
-    tie.close
-    (tie.spec
-    has-break-requires
-    put-byte-requires
-    same_length
-    returns
-    copy-requires
-    same-length-2
-    returns-2)
+pub returns : goal.returns
+returns c = search same

@@ -11,8 +11,7 @@ use Rattle.octets.specs.Scans.{any}
 use Rattle.sip.specs.Lines.{joined}
 use Rattle.sip.proofs.Canonical.{joined_le}
 use Rattle.emit.proofs.Pieces.{joined_space, joined_same}
-use Rattle.emit.proofs.joined_len.Statement.{statement}
-use Rattle.emit.proofs.joined_len.Tie as tie
+use Rattle.emit.proofs.joined_len.Goals as goal
 
 module _ (g : List ℕ) {t : Bool} (e : t ≡ any is_break g) where
   space : t ≡ true → 1 ≡ length (joined g)
@@ -24,14 +23,8 @@ module _ (g : List ℕ) {t : Bool} (e : t ≡ any is_break g) where
   same : t ≡ false → length g ≡ length (joined g)
   same q = sym (ap length (joined_same g e q))
 
-has-break-requires : tie.Need-has-break-requires
-has-break-requires c κs = search rules
+pub returns-then-has_break : goal.returns-then-has_break
+returns-then-has_break c = search (space, some)
 
-returns : tie.Need-returns
-returns c = search (space, some)
-
-returns-2 : tie.Need-returns-2
-returns-2 c = search (same, rules)
-
-pub joined-len-spec : {M : Type 1} → statement M
-joined-len-spec = tie.close (tie.spec has-break-requires returns returns-2)
+pub returns : goal.returns
+returns c = search (same, rules)

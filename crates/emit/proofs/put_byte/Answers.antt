@@ -6,11 +6,9 @@ use native.Mathlib.Numerals.{add-one}
 use native.Mathlib.Omega.{arith}
 use lib.ListN.{length, set}
 use lib.Seq.{set_split}
-use borrow.Author.Rules.{rules}
 use Rattle.emit.specs.Put.{Wrote}
 use Rattle.emit.proofs.Laws.{next_room, put_room}
-use Rattle.emit.proofs.put_byte.Statement.{statement}
-use Rattle.emit.proofs.put_byte.Tie as tie
+use Rattle.emit.proofs.put_byte.Goals as goal
 
 done : (d : List ℕ) (at b : ℕ) {r : ℕ} → at < length d → r ≡ at + 1 → Wrote d at (b ∷ []) r (set d at b)
 done d at b h z =
@@ -19,17 +17,5 @@ done d at b h z =
       holds = set_split d at b h ∙ rw (← add-one at) (sym (put_room d at (b ∷ []) (omega arith)));
     }
 
-slice-write-out : tie.Need-slice-write-out
-slice-write-out c = search rules
-
-add-result : tie.Need-overflow-add-result
-add-result c = search rules
-
-same_length : tie.Need-same-length
-same_length c = search rules
-
-returns : tie.Need-returns
+pub returns : goal.returns
 returns c = search done
-
-pub put-byte-spec : {M : Type 1} → statement M
-put-byte-spec = tie.close (tie.spec slice-write-out add-result same_length returns)

@@ -5,8 +5,7 @@ use Prim.Native.Nat.{ℕ, ◌+◌, ◌-◌, ◌≤◌, ◌<◌}
 use native.Mathlib.Omega.{arith}
 use lib.Dec.{leb}
 use borrow.Author.Tests.{le-leb, lt-leb, leb-true, leb-false}
-use Rattle.emit.proofs.has_room.Statement.{statement}
-use Rattle.emit.proofs.has_room.Tie as tie
+use Rattle.emit.proofs.has_room.Goals as goal
 
 module _ (len at size : ℕ) where
   past : len < size → false ≡ leb (at + size) len
@@ -19,11 +18,8 @@ module _ (len at size : ℕ) where
       go true e = le-leb at (len - size) (omega (arith, leb-true (at + size) len e))
       go false e = lt-leb at (len - size) (omega (arith, leb-false (at + size) len e))
 
-returns : tie.Need-returns
-returns c = search past
+pub returns-then-len-size : goal.returns-then-len-size
+returns-then-len-size c = search past
 
-returns-2 : tie.Need-returns-2
-returns-2 c = search left
-
-pub has-room-spec : {M : Type 1} → statement M
-has-room-spec = tie.close (tie.spec returns returns-2)
+pub returns : goal.returns
+returns c = search left
