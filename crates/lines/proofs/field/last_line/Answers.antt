@@ -1,0 +1,16 @@
+-- The invariant: the value ends where what is left of it from `end` on does, and no value byte stands there. The measure is what is left of the text.
+use Prim.Native.Nat.{◌-◌}
+use Rattle.lines.proofs.Values.{ends_bad, ends, next_within, next_less, next_over, next_read}
+use Rattle.lines.proofs.field.last_line.Goals as goal
+
+pub returns-then-not-is_blank : goal.returns-then-not-is_blank
+returns-then-not-is_blank c = search ends
+
+pub loop-after-smaller : goal.loop-after-smaller
+loop-after-smaller c = search next_less
+
+pub loop-after-preserved : goal.loop-after-preserved
+loop-after-preserved c = search (next_within, next_over, next_read)
+
+pub returns : goal.returns
+returns c = search ends_bad

@@ -1,0 +1,6 @@
+-- By the look, or line by line.
+use Rattle.lines.proofs.Values.{ends_here}
+use Rattle.lines.proofs.field.value_end.Goals as goal
+
+pub returns-then-is_last_line : goal.returns-then-is_last_line
+returns-then-is_last_line c = search ends_here

@@ -1,0 +1,19 @@
+-- The words make the name with its colon.
+use mathlib.Core.Path.{refl}
+use native.Mathlib.Omega.{arith}
+use borrow.Author.Tests.{not-false}
+use Rattle.octets.specs.Classes.{text}
+use Rattle.sip.specs.Profile.{rows, find, name_of}
+use Rattle.lines.proofs.Quads.{word_at, both_at, then_at}
+use Rattle.lines.proofs.Spelt.{spelt}
+use borrow.Author.Rules.{rules}
+use Rattle.lines.proofs.known.asserted_identity.Goals as goal
+
+pub returns-then-is : goal.returns-then-is
+unfolding name_of find rows text
+returns-then-is c =
+    let f = c in
+    let e = f in
+    let front = both_at _ 4 _ e.both.ensures e.if-not-both.false (omega arith) in
+    let middle = both_at _ 4 _ f.both-2.ensures f.if-not-both-2.false (omega arith) in
+    spelt 15 refl (then_at (then_at front middle) (word_at _ c.is.ensures c.if-is.true)) refl (search rules)

@@ -1,0 +1,13 @@
+-- The words make the name with its colon.
+use mathlib.Core.Path.{refl}
+use native.Mathlib.Omega.{arith}
+use Rattle.octets.specs.Classes.{text}
+use Rattle.sip.specs.Profile.{rows, find, name_of}
+use Rattle.lines.proofs.Quads.{both_at}
+use Rattle.lines.proofs.Spelt.{spelt}
+use borrow.Author.Rules.{rules}
+use Rattle.lines.proofs.known.with_p.Goals as goal
+
+pub returns-then-both : goal.returns-then-both
+unfolding name_of find rows text
+returns-then-both c = spelt 16 refl (both_at _ 4 _ c.both.ensures c.if-both.true (omega arith)) refl (search rules)

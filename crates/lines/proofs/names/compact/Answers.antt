@@ -1,0 +1,42 @@
+-- The letter is the key of an arm, whose number computes, or of none.
+use mathlib.Core.Path.{refl}
+use Rattle.octets.specs.Classes.{text}
+use Rattle.octets.specs.Scans.{lower, same_text}
+use Rattle.sip.specs.Profile.{rows, lookup, number_of}
+use Rattle.lines.proofs.Spellings.{letter, no_letter}
+use Rattle.lines.proofs.names.compact.Goals as goal
+
+pub returns-in-118 : goal.returns-in-118
+unfolding text lower same_text rows lookup number_of
+returns-in-118 c = letter c.args.b c.small-letter.ensures 118 _ refl refl c.in-118.is
+
+pub returns-in-102 : goal.returns-in-102
+unfolding text lower same_text rows lookup number_of
+returns-in-102 c = letter c.args.b c.small-letter.ensures 102 _ refl refl c.in-102.is
+
+pub returns-in-116 : goal.returns-in-116
+unfolding text lower same_text rows lookup number_of
+returns-in-116 c = letter c.args.b c.small-letter.ensures 116 _ refl refl c.in-116.is
+
+pub returns-in-105 : goal.returns-in-105
+unfolding text lower same_text rows lookup number_of
+returns-in-105 c = letter c.args.b c.small-letter.ensures 105 _ refl refl c.in-105.is
+
+pub returns-in-109 : goal.returns-in-109
+unfolding text lower same_text rows lookup number_of
+returns-in-109 c = letter c.args.b c.small-letter.ensures 109 _ refl refl c.in-109.is
+
+pub returns-in-108 : goal.returns-in-108
+unfolding text lower same_text rows lookup number_of
+returns-in-108 c = letter c.args.b c.small-letter.ensures 108 _ refl refl c.in-108.is
+
+pub returns-in-99 : goal.returns-in-99
+unfolding text lower same_text rows lookup number_of
+returns-in-99 c = letter c.args.b c.small-letter.ensures 99 _ refl refl c.in-99.is
+
+pub returns-in-107 : goal.returns-in-107
+unfolding text lower same_text rows lookup number_of
+returns-in-107 c = letter c.args.b c.small-letter.ensures 107 _ refl refl c.in-107.is
+
+pub returns-in_default : goal.returns-in_default
+returns-in_default c = no_letter c.args.b c.small-letter.ensures c.in_default.in_default-own.rest
