@@ -1,6 +1,7 @@
 // The calls that are remembered: a table of 32 places, which the caller lends. A place has 194 bytes: the length of the Call-ID, 128 bytes
 // for it, the length of the tag, 64 bytes for it. Any content is a table; a place without a well-formed pair is free.
 #![tactic(auto)]
+
 ghost use Rattle.std.specs.Prelude.{◌≡◌, true, cond, ◌++◌, ◌+◌, ◌*◌, ◌-◌, ◌≤◌, ◌<◌, length, take, drop};
 ghost use Rattle.octets.specs.Classes.{class_table};
 ghost use Rattle.sip.specs.Calls.{is_pair, places, place_with, free_place, is_held, first_where, starts_with0, new_place, placed, removed, ending};

@@ -1,5 +1,6 @@
 // What people read of the cause map.
 #![tactic(auto)]
+
 ghost use Rattle.std.specs.Prelude.{◌≤◌, length};
 ghost use Rattle.emit.specs.Put.{Wrote, Placed};
 ghost use Rattle.cause_text.specs.Text.{printed};

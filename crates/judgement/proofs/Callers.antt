@@ -58,7 +58,7 @@ module _ (k : ℕ) (v : List ℕ) where
       go : (b c : Bool) → i.tel ≡ b → j.tel ≡ c → Right [] (i ∷ j ∷ [])
       go true true p q = let x : false ≡ true = rw (p, q) at a in never (cc)
       go true false p q = rw (p, q, z)
-      go false true p q = rw (p, q, z)
+      go false true p q = rw (p, z)
       go false false p q = let x : false ≡ true = rw (p, q) at a in never (cc)
 
   -- the second

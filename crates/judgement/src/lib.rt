@@ -1,5 +1,6 @@
 // Judges a message: the reasons 2 to 15 and 17, and what the writer needs to know of a message that none of them refuses.
 #![tactic(auto)]
+
 ghost use Rattle.std.specs.Prelude.{◌≡◌, ◌&&◌, ◌+◌, ◌≤◌, leb, length};
 ghost use Rattle.sip.specs.Lines.{folded};
 ghost use Rattle.sip.specs.Values.{is_tagged};

@@ -1,0 +1,14 @@
+-- The invariant: the first k are right (Parts).
+use Prim.Native.Nat.{◌-◌}
+use Rattle.calls.proofs.Parts.{firsts_none, firsts_next, firsts_end}
+use borrow.Author.Rules.{rules}
+use Rattle.calls.proofs.full.refined.Goals as goal
+
+pub loop-k-init : goal.loop-k-init
+loop-k-init c = search (firsts_none, rules)
+
+pub loop-k-preserved : goal.loop-k-preserved
+loop-k-preserved c = search (firsts_next, rules)
+
+pub returns : goal.returns
+returns c = search (firsts_end, rules)

@@ -1,0 +1,7 @@
+-- The pair is held where there is a place (Says).
+use Rattle.calls.proofs.Says.{holder_held}
+use borrow.Author.Rules.{rules}
+use Rattle.calls.proofs.is_held.Goals as goal
+
+pub returns : goal.returns
+returns c = search (holder_held, rules)
