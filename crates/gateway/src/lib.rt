@@ -1,5 +1,6 @@
 // The screen: judges a request or a response, and writes the outgoing message into the lent buffer.
 #![tactic(auto)]
+
 ghost use Rattle.std.specs.Prelude.{◌≡◌, true, false, cond, ◌&&◌, ◌++◌, ◌+◌, ◌≤◌, ◌<◌, leb, length, take, drop};
 ghost use Rattle.sip.specs.Lines.{crlf};
 ghost use Rattle.sip.specs.Output.{field_lines};
