@@ -2,7 +2,7 @@
 use mathlib.Core.Path.{◌≡◌, refl, ap, ◌∙◌}
 use mathlib.Core.Bool.{Bool, true, false, cond}
 use mathlib.Core.List.{List, [], ◌∷◌, ◌++◌, append-nil, map}
-use mathlib.Core.Option.{none, some}
+use mathlib.Core.Option.{Option, none, some}
 use Prim.Native.Nat.{ℕ, ◌≤◌}
 use Prim.Native.String.{String}
 use native.Mathlib.Omega.{arith}
@@ -12,6 +12,7 @@ use borrow.Author.Tests.{ltb-true, ne_eqb}
 use Rattle.octets.specs.Classes.{text, is_token, is_digit, is_blank, is_break, is_gap, is_value, is_visible}
 use Rattle.octets.specs.Scans.{run, all, any}
 use Rattle.octets.proofs.Runs.{run_yes, run_no, run_nil}
+use Rattle.sip.specs.declared.Column.{Column}
 use Rattle.sip.specs.declared.Column.TheVariants.{Invite}
 use Rattle.sip.specs.declared.IdentityAt.{IdentityAt}
 use Rattle.sip.specs.Lines.{RequestLine, request, start_bytes, Field, bytes, crlf, starts_crlf, starts_blank, one_longer, value_size}
@@ -300,6 +301,7 @@ kept_are : (number : List ℕ) (restricted : Bool) → is_global number ≡ true
 unfolding kept identity_field entries
 kept_are number restricted g =
     rw (invite_column, identity_kept.0, identity_kept.1, spaced_canonical (tel_of number) (tel_visible number g))
+    (ap (λ (c : Option Column). record { number = 15; value = tel_of number } ∷ kept c (others restricted)) invite_column)
 
 -- ---- it is accepted: of the values, only reason 10 looks at the identity's
 

@@ -1,5 +1,6 @@
 // The box for the old exchange: the calling party number parameter of ITU-T Q.763 from an initial INVITE, and back.
 #![tactic(auto)]
+
 ghost use Rattle.std.specs.Prelude.{◌≡◌};
 ghost use Rattle.isup.specs.Forward.{produced};
 ghost use Rattle.isup.specs.Backward.{decoded, status_for};

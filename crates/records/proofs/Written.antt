@@ -159,6 +159,7 @@ last_from done l (b ∷ s) x = go (eqb (refusal_at (b ∷ s)) 0) refl
     go false q = bad_last done l (b ∷ s) (omega arith) (eqb-false (refusal_at (b ∷ s)) 0 q)
 
 pieces_from : (ps : List (List ℕ)) → Pieces ps → (done : List Recorded) (l : length done ≤ most_records) → stepped_all (after done) ps ≡ gives done l (joined_pieces ps)
+pieces_from [] x' done l = elim x' [ ]
 pieces_from (p ∷ ps) (next_piece e x h) done l = piece_then done l p ps e (x e) (λ more k. pieces_from ps h more k)
 pieces_from (p ∷ []) (last_piece x) done l = last_from done l p x
 

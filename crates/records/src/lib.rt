@@ -1,5 +1,6 @@
 // The records of what was screened: replays them and counts what came in each group, and with which reasons.
 #![tactic(auto)]
+
 ghost use Rattle.std.specs.Prelude.{◌≡◌, [], ◌+◌, ◌<◌, get_or, set};
 ghost use Rattle.octets.specs.Classes.{within};
 ghost use Rattle.emit.specs.Put.{Wrote};
