@@ -12,7 +12,6 @@ use Rattle.octets.specs.Scans.{run, starts}
 use Rattle.sip.specs.declared.Span.{Span}
 use Rattle.sip.specs.Lines.{folded}
 use Rattle.sip.specs.Values.{is_tagged, is_global}
-use Rattle.sip.specs.Refusals.{withheld}
 use Rattle.sip.specs.Readings.{part, place, reading_at, calling_number}
 use Rattle.lines.specs.Index.{index}
 use Rattle.lines.specs.Passes.{at_most96, first_slots, spans_in}

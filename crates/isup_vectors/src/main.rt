@@ -4,10 +4,8 @@
 #![tactic(auto)]
 ghost use Rattle.std.specs.Prelude.{◌<◌};
 
-fn print(n: u64, end: &[u8]) {
-    io::print_decimal(1, n);
-    io::write_all(1, end);
-}
+use std::io;
+use std::io::{Read, Write};
 
 fn wide(b: u8) -> usize
     ensures { result < 256 }
@@ -22,41 +20,46 @@ fn number(high: u8, low: u8) -> usize
 }
 
 // Each byte, with a space before it.
-fn print_bytes(s: &[u8]) {
+fn print_bytes<W: Write>(to: &mut W, s: &[u8]) -> io::Result<()> {
     let mut i = 0;
     while i < s.len() {
-        io::write_all(1, b" ");
-        io::print_decimal(1, wide(s[i]) as u64);
+        let b = wide(s[i]);
+        write!(to, " {b}")?;
         i += 1;
     }
+    Ok(())
 }
 
-fn forward(message: &[u8], code: &[u8], home: bool) {
+fn forward<W: Write>(to: &mut W, message: &[u8], code: &[u8], home: bool) -> io::Result<()> {
     let p = isup::parameter_of(message, code, home);
     let r = p.refusal;
-    print(r.reason, b" ");
-    print(r.reply, b" ");
-    print(r.detail, b" ");
-    print(r.missing, b" ");
-    io::print_decimal(1, p.len as u64);
+    let reason = r.reason;
+    let reply = r.reply;
+    let detail = r.detail;
+    let missing = r.missing;
+    let len = p.len;
+    write!(to, "{reason} {reply} {detail} {missing} {len}")?;
     let bytes = p.bytes;
-    print_bytes(octets::first(&bytes, p.len));
+    print_bytes(to, octets::first(&bytes, len))
 }
 
-fn backward(bytes: &[u8], code: &[u8]) {
+fn backward<W: Write>(to: &mut W, bytes: &[u8], code: &[u8]) -> io::Result<()> {
     let c = isup::caller_of(bytes, code);
-    print(c.refusal, b" ");
+    let refusal = c.refusal;
+    write!(to, "{refusal} ")?;
     if c.id {
-        io::write_all(1, b"1 ");
+        to.write_all(b"1 ")?;
     } else {
-        io::write_all(1, b"0 ");
+        to.write_all(b"0 ")?;
     }
-    io::print_decimal(1, c.len as u64);
-    if c.len != 0 {
-        io::write_all(1, b" ");
+    let len = c.len;
+    write!(to, "{len}")?;
+    if len != 0 {
+        to.write_all(b" ")?;
         let digits = c.number;
-        io::write_all(1, octets::first(&digits, c.len));
+        to.write_all(octets::first(&digits, len))?;
     }
+    Ok(())
 }
 
 // Eight bytes as a number, the high one first.
@@ -70,62 +73,78 @@ fn cause_of(s: &[u8]) -> u64 {
     cause
 }
 
-fn status(bytes: &[u8]) {
+fn status<W: Write>(to: &mut W, bytes: &[u8]) -> io::Result<()> {
     let answer = isup::status_of(cause_of(bytes));
-    print(answer.status, b" ");
-    io::print_decimal(1, answer.refusal);
+    let status = answer.status;
+    let refusal = answer.refusal;
+    write!(to, "{status} {refusal}")
 }
 
-fn show(kind: u8, home: bool, code: &[u8], bytes: &[u8]) {
+fn show<W: Write>(
+    to: &mut W,
+    kind: u8,
+    home: bool,
+    code: &[u8],
+    bytes: &[u8],
+) -> io::Result<()> {
     if kind == 0 {
-        forward(bytes, code, home);
+        forward(to, bytes, code, home)?;
     } else if kind == 1 {
-        backward(bytes, code);
+        backward(to, bytes, code)?;
     } else {
-        status(bytes);
+        status(to, bytes)?;
     }
-    io::write_all(1, b"\n");
+    to.write_all(b"\n")
 }
 
 // One case; whether there was one that is whole.
-fn case(code: &mut [u8], bytes: &mut [u8]) -> bool {
+fn case<R: Read, W: Write>(
+    input: &mut R,
+    to: &mut W,
+    code: &mut [u8],
+    bytes: &mut [u8],
+) -> io::Result<bool> {
     let mut head = [0u8; 3];
-    if io::read_full(0, &mut head) != 3 {
-        return false;
+    if streams::read_full(input, &mut head)? != 3 {
+        return Ok(false);
     }
     let size = wide(head[2]);
     if code.len() < size {
-        return false;
+        return Ok(false);
     }
-    if io::read_full(0, &mut code[..size]) != size {
-        return false;
+    if streams::read_full(input, &mut code[..size])? != size {
+        return Ok(false);
     }
     let mut measure = [0u8; 2];
-    if io::read_full(0, &mut measure) != 2 {
-        return false;
+    if streams::read_full(input, &mut measure)? != 2 {
+        return Ok(false);
     }
     let len = number(measure[0], measure[1]);
     if bytes.len() < len {
-        return false;
+        return Ok(false);
     }
-    if io::read_full(0, &mut bytes[..len]) != len {
-        return false;
+    if streams::read_full(input, &mut bytes[..len])? != len {
+        return Ok(false);
     }
     show(
+        to,
         head[0],
         head[1] != 0,
         octets::first(code, size),
         octets::first(bytes, len),
-    );
-    true
+    )?;
+    Ok(true)
 }
 
-fn main() {
+fn main(rt: HostRuntime) -> io::Result<()> {
+    let mut input = rt.stdin();
+    let mut to = rt.stdout();
     let mut code = [0u8; 255];
     let mut bytes = [0u8; 9000];
     for _ in 0..65536usize {
-        if !case(&mut code, &mut bytes) {
-            return;
+        if !case(&mut input, &mut to, &mut code, &mut bytes)? {
+            return Ok(());
         }
     }
+    Ok(())
 }

@@ -1,31 +1,33 @@
 // Screens one message from standard input as side 1, and prints the answer's numbers and the output.
 #![tactic(auto)]
+use std::io;
+use std::io::Write;
+
 use gateway::Verdict;
 
-fn print(n: u64, end: &[u8]) {
-    io::print_decimal(1, n);
-    io::write_all(1, end);
+fn print_numbers<W: Write>(
+    to: &mut W,
+    reason: u64,
+    reply: u64,
+    detail: u64,
+    missing: u64,
+) -> io::Result<()> {
+    writeln!(to, "{reason} {reply} {detail} {missing}")
 }
 
-fn print_numbers(reason: u64, reply: u64, detail: u64, missing: u64) {
-    print(reason, b" ");
-    print(reply, b" ");
-    print(detail, b" ");
-    print(missing, b"\n");
-}
-
-fn main() {
+fn main(rt: HostRuntime) -> io::Result<()> {
     // One byte more than a message may have, so that a longer one is seen to be longer.
     let mut message = [0u8; 8193];
-    let n = io::read_full(0, &mut message);
+    let n = streams::read_full(&mut rt.stdin(), &mut message)?;
     // One message is screened, so that no call is remembered before it.
     let mut calls = [0u8; 6208];
     let mut out = [0u8; 9216];
+    let mut to = rt.stdout();
     match gateway::screen(&message[..n], 1, &mut calls, &mut out) {
         Verdict::Accepted(len) => {
-            print_numbers(0, 0, 0, 0);
-            io::write_all(1, octets::first(&out, len));
+            print_numbers(&mut to, 0, 0, 0, 0)?;
+            to.write_all(octets::first(&out, len))
         }
-        Verdict::Refused(r) => print_numbers(r.reason, r.reply, r.detail, r.missing),
+        Verdict::Refused(r) => print_numbers(&mut to, r.reason, r.reply, r.detail, r.missing),
     }
 }

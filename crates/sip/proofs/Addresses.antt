@@ -11,7 +11,7 @@ use Rattle.octets.specs.Classes.{text, within, bit, is_digit, is_user}
 use Rattle.octets.specs.Scans.{run, starts, run_escaped, same_text}
 use Rattle.sip.specs.declared.UriAt.{UriAt}
 use Rattle.sip.specs.declared.AddressAt.{AddressAt}
-use Rattle.sip.specs.Values.{no_uri, host_port, tail, sip_from, sip, tel, uri, display, no_address, bracketed, bare, address, person_size}
+use Rattle.sip.specs.Values.{no_uri, host_port, sip_from, sip, tel, uri, display, no_address, bracketed, bare, address, person_size}
 
 -- ---- a URI
 

@@ -3,14 +3,12 @@
 // says. Kind 0: they are a message, screened with none held. 1: a message, screened with the table that the case before left. 2: they are the
 // front of the table, and the rest of it is zeros. 3: a Call-ID, as long as the room says, and a tag, whose call is ended.
 #![tactic(auto)]
+
 ghost use Rattle.std.specs.Prelude.{◌<◌};
 
 use gateway::Verdict;
-
-fn print(n: u64, end: &[u8]) {
-    io::print_decimal(1, n);
-    io::write_all(1, end);
-}
+use std::io;
+use std::io::{Read, Write};
 
 fn wide(b: u8) -> usize
     ensures { result < 256 }
@@ -37,20 +35,25 @@ fn checksum(s: &[u8]) -> u64 {
     (high * 65536 + low) as u64
 }
 
-fn screen(message: &[u8], side: u8, table: &mut [u8; 6208], out: &mut [u8]) {
+fn screen<W: Write>(
+    to: &mut W,
+    message: &[u8],
+    side: u8,
+    table: &mut [u8; 6208],
+    out: &mut [u8],
+) -> io::Result<()> {
     match gateway::screen(message, side as u64, table, out) {
-        Verdict::Accepted(len) => {
-            io::write_all(1, b"0 0 0 0 ");
-            print(len as u64, b" ");
-        }
+        Verdict::Accepted(len) => write!(to, "0 0 0 0 {len} ")?,
         Verdict::Refused(r) => {
-            print(r.reason, b" ");
-            print(r.reply, b" ");
-            print(r.detail, b" ");
-            print(r.missing, b" 0 ");
+            let reason = r.reason;
+            let reply = r.reply;
+            let detail = r.detail;
+            let missing = r.missing;
+            write!(to, "{reason} {reply} {detail} {missing} 0 ")?
         }
     }
-    print(checksum(out), b" ");
+    let sum = checksum(out);
+    write!(to, "{sum} ")
 }
 
 // Puts the bytes to the front of the table, and zeros behind them.
@@ -59,56 +62,73 @@ fn fill(table: &mut [u8; 6208], s: &[u8]) {
     emit::put(table, 0, s);
 }
 
-fn end(table: &mut [u8; 6208], s: &[u8], id_len: usize) {
+fn end<W: Write>(to: &mut W, table: &mut [u8; 6208], s: &[u8], id_len: usize) -> io::Result<()> {
     let answer = calls::end(table, octets::first(s, id_len), octets::rest(s, id_len));
-    print(answer, b" ");
+    write!(to, "{answer} ")
 }
 
-fn run(kind: u8, side: u8, room: usize, s: &[u8], table: &mut [u8; 6208], out: &mut [u8]) {
+fn run<W: Write>(
+    to: &mut W,
+    kind: u8,
+    side: u8,
+    room: usize,
+    s: &[u8],
+    table: &mut [u8; 6208],
+    out: &mut [u8],
+) -> io::Result<()> {
     if kind == 2 {
         fill(table, s);
-        return;
+        return Ok(());
     }
     if kind == 3 {
-        end(table, s, room);
-        return;
+        return end(to, table, s, room);
     }
     if kind == 0 {
         fill(table, b"");
     }
-    screen(s, side, table, out);
+    screen(to, s, side, table, out)
 }
 
 // One case; whether there was one that is whole.
-fn case(message: &mut [u8], out: &mut [u8], table: &mut [u8; 6208]) -> bool {
+fn case<R: Read, W: Write>(
+    input: &mut R,
+    to: &mut W,
+    message: &mut [u8],
+    out: &mut [u8],
+    table: &mut [u8; 6208],
+) -> io::Result<bool> {
     let mut head = [0u8; 6];
-    if io::read_full(0, &mut head) != 6 {
-        return false;
+    if streams::read_full(input, &mut head)? != 6 {
+        return Ok(false);
     }
     let room = number(head[2], head[3]);
     let len = number(head[4], head[5]);
     if message.len() < len {
-        return false;
+        return Ok(false);
     }
     if out.len() < room {
-        return false;
+        return Ok(false);
     }
-    if io::read_full(0, &mut message[..len]) != len {
-        return false;
+    if streams::read_full(input, &mut message[..len])? != len {
+        return Ok(false);
     }
     let given = octets::first(message, len);
-    run(head[0], head[1], room, given, table, &mut out[..room]);
-    print(checksum(table), b"\n");
-    true
+    run(to, head[0], head[1], room, given, table, &mut out[..room])?;
+    let sum = checksum(table);
+    writeln!(to, "{sum}")?;
+    Ok(true)
 }
 
-fn main() {
+fn main(rt: HostRuntime) -> io::Result<()> {
+    let mut input = rt.stdin();
+    let mut to = rt.stdout();
     let mut message = [0u8; 65535];
     let mut table = [0u8; 6208];
     for _ in 0..65536usize {
         let mut out = [165u8; 65535];
-        if !case(&mut message, &mut out, &mut table) {
-            return;
+        if !case(&mut input, &mut to, &mut message, &mut out, &mut table)? {
+            return Ok(());
         }
     }
+    Ok(())
 }

@@ -1,5 +1,4 @@
 -- Place by place (Removing).
-use Prim.Native.Nat.{◌-◌}
 use Rattle.sip.proofs.Calls.Places.{id_long, tag_short}
 use Rattle.calls.proofs.Says.{id_some}
 use Rattle.calls.proofs.Removing.{clearing_start, clearing_long, clearing_end, blank_length, clearing_next}

@@ -1,5 +1,4 @@
 -- The places before k do not start with 0 (Firsts).
-use Prim.Native.Nat.{◌-◌}
 use Rattle.calls.proofs.Firsts.{from_start, from_end, empty_here, empty_later}
 use borrow.Author.Rules.{rules}
 use Rattle.calls.proofs.first_empty.Goals as goal

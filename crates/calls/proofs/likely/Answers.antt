@@ -1,5 +1,4 @@
 -- The places before k do not start so (Firsts).
-use Prim.Native.Nat.{◌-◌}
 use Rattle.calls.proofs.Firsts.{said_here, said_later, from_end}
 use borrow.Author.Rules.{rules}
 use Rattle.calls.proofs.likely.Goals as goal

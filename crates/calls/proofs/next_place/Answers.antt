@@ -1,5 +1,4 @@
 -- The places before k do not say the pair (Says).
-use Prim.Native.Nat.{◌-◌}
 use Rattle.calls.proofs.Firsts.{said_here, from_end}
 use Rattle.calls.proofs.Says.{next_jump, next_again}
 use borrow.Author.Rules.{rules}

@@ -1,5 +1,4 @@
 -- `emit::copy` meets its contract: the laws of a copy byte by byte (Copies).
-use Prim.Native.Nat.{◌-◌}
 use lib.ListN.{length-set}
 use lib.Seq.{paste-zero}
 use borrow.Author.Rules.{rules}

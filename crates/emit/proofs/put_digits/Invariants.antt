@@ -1,6 +1,6 @@
 -- The invariant: the i digits that are left, put now, give what all of them, put at once, would give.
 use mathlib.Core.Path.{◌≡◌}
-use Prim.Native.Nat.{◌-◌, ◌≤◌}
+use Prim.Native.Nat.{◌≤◌}
 use lib.ListN.{length}
 use Rattle.emit.specs.Put.{put_at}
 use Rattle.emit.specs.Digits.{lowest}

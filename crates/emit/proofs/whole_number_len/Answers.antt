@@ -1,5 +1,4 @@
 -- `emit::whole_number_len` meets its contract.
-use Prim.Native.Nat.{◌-◌}
 use borrow.Author.Rules.{rules}
 use Rattle.emit.proofs.Numerals.{counted_last, counted_next, counted_all}
 use Rattle.emit.proofs.whole_number_len.Goals as goal

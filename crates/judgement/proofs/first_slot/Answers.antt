@@ -1,6 +1,5 @@
 -- The slots before the i-th are of other numbers: the first is among those that are left.
 use borrow.Author.Rules.{rules}
-use Prim.Native.Nat.{◌-◌}
 use Rattle.judgement.proofs.Slots.{begun_slot, found_slot, other_slot, no_slot_lem}
 use Rattle.judgement.proofs.first_slot.Goals as goal
 

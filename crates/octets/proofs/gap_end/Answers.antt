@@ -1,5 +1,4 @@
 -- `octets::gap_end` meets its contract.
-use Prim.Native.Nat.{◌-◌}
 use native.Mathlib.Omega.{arith}
 use Rattle.octets.proofs.Runs.{loop_stop, loop_next, loop_over}
 use Rattle.octets.proofs.gap_end.Goals as goal

@@ -1,5 +1,4 @@
 -- `octets::number` meets its contract.
-use Prim.Native.Nat.{◌-◌}
 use native.Mathlib.Omega.{arith}
 use Rattle.octets.proofs.Numbers.{bounds, at_end, at_low, at_high, again_run, again_value, too_large}
 use Rattle.octets.proofs.number.Goals as goal

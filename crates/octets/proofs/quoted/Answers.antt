@@ -1,5 +1,4 @@
 -- `octets::quoted` meets its contract.
-use Prim.Native.Nat.{◌-◌}
 use native.Mathlib.Omega.{arith}
 use Rattle.octets.proofs.Quotes.{no_quote, begins, ended, closed, one, cut, two}
 use borrow.Author.Rules.{rules}

@@ -1,5 +1,4 @@
 -- `octets::run_from` meets its contract.
-use Prim.Native.Nat.{◌-◌}
 use native.Mathlib.Omega.{arith}
 use Rattle.octets.proofs.Runs.{loop_stop, loop_next, loop_over}
 use Rattle.octets.proofs.run_from.Goals as goal

@@ -1,5 +1,4 @@
 -- The records before a place are taken, and the text from there on gives the others (Whole).
-use Prim.Native.Nat.{◌-◌}
 use Rattle.sip.specs.Calls.{none_held}
 use Rattle.records.proofs.Whole.{before_all, at_end, whole_over, next_fits, next_inside, next_before, next_less}
 use borrow.Author.Rules.{rules}

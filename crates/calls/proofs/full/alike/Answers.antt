@@ -1,5 +1,4 @@
 -- The invariant: bytes that differ were found, or those that are looked at and count are the same (Masks).
-use Prim.Native.Nat.{◌-◌}
 use Rattle.calls.proofs.Masks.{alike_start, alike_end, unlike_found, unlike_not}
 use borrow.Author.Rules.{rules}
 use Rattle.calls.proofs.full.alike.Goals.{then-unlike, else-unlike}

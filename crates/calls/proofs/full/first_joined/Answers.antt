@@ -1,5 +1,4 @@
 -- The invariant: no place before j agrees in this part too (Parts).
-use Prim.Native.Nat.{◌-◌}
 use Rattle.calls.proofs.Parts.{reached_within, reached_start, reached_here, reached_later, reached_end}
 use borrow.Author.Rules.{rules}
 use Rattle.calls.proofs.full.first_joined.Goals as goal

@@ -1,5 +1,4 @@
 -- The invariant: the places before k are neither free nor a copy (Spare).
-use Prim.Native.Nat.{◌-◌}
 use Rattle.calls.proofs.Spare.{passed_start, passed_again, passed_free, passed_next, passed_end}
 use borrow.Author.Rules.{rules}
 use Rattle.calls.proofs.full.first_spare.Goals as goal

@@ -1,5 +1,4 @@
 -- The invariant: i ones are there (Masks).
-use Prim.Native.Nat.{◌-◌}
 use Rattle.calls.proofs.Masks.{ones_start, ones_next, ones_end}
 use borrow.Author.Rules.{rules}
 use Rattle.calls.proofs.full.ones_first.Goals as goal

@@ -1,5 +1,4 @@
 -- The invariant: the first k are right (Parts).
-use Prim.Native.Nat.{◌-◌}
 use Rattle.calls.proofs.Parts.{firsts_none, firsts_next, firsts_end}
 use borrow.Author.Rules.{rules}
 use Rattle.calls.proofs.full.refined.Goals as goal

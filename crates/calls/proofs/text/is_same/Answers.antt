@@ -1,5 +1,4 @@
 -- The blocks are the same, and the last one may share bytes with the one before (Texts).
-use Prim.Native.Nat.{◌-◌}
 use Rattle.calls.proofs.Texts.{same_start, same_fails, same_again, same_whole}
 use borrow.Author.Rules.{rules}
 use Rattle.calls.proofs.text.is_same.Goals as goal

@@ -1,5 +1,4 @@
 -- The blocks pass, and the last one may share bytes with the one before (Texts).
-use Prim.Native.Nat.{◌-◌}
 use Rattle.calls.proofs.Texts.{short_visible, visible_start, visible_fails, visible_again, visible_whole}
 use borrow.Author.Rules.{rules}
 use Rattle.calls.proofs.text.is_visible.Goals as goal

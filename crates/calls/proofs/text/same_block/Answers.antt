@@ -1,5 +1,4 @@
 -- The invariant: two bytes that differ were found, or all that are looked at are the same (Texts).
-use Prim.Native.Nat.{◌-◌}
 use Rattle.calls.proofs.Texts.{none_other, other_found, other_not, same_over}
 use borrow.Author.Rules.{rules}
 use Rattle.calls.proofs.text.same_block.Goals.{then-s-at, else-s-at}

@@ -1,5 +1,4 @@
 -- The invariant: a byte that is not visible was found, or all that are looked at are visible (Texts).
-use Prim.Native.Nat.{◌-◌}
 use Rattle.calls.proofs.Texts.{none_hidden, hidden_found, hidden_not, visible_over}
 use borrow.Author.Rules.{rules}
 use Rattle.calls.proofs.text.visible_block.Goals.{then-is_hidden, else-is_hidden}

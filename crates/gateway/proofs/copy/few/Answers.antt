@@ -1,5 +1,4 @@
 -- The laws of a copy byte by byte (Copies of emit).
-use Prim.Native.Nat.{◌-◌}
 use lib.ListN.{length-set}
 use lib.Seq.{paste-zero}
 use borrow.Author.Rules.{rules}

@@ -1,5 +1,4 @@
 -- The invariant: the first j bytes of s are put. Eight more are put after them, or over their end (Copies).
-use Prim.Native.Nat.{◌-◌}
 use borrow.Author.Rules.{rules}
 use Rattle.gateway.proofs.Copies.{none_put, word_more, word_last}
 use Rattle.gateway.proofs.copy.many.Goals as goal

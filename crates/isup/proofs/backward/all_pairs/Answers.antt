@@ -1,5 +1,4 @@
 -- The invariant: what is left decides.
-use Prim.Native.Nat.{◌-◌}
 use Rattle.isup.proofs.Decoding.{all_bad, all_next, all_end}
 use borrow.Author.Rules.{rules}
 use Rattle.isup.proofs.backward.all_pairs.Goals as goal

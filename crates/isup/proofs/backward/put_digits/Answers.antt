@@ -1,5 +1,4 @@
 -- The invariant: the first i digits are written (Decoding).
-use Prim.Native.Nat.{◌-◌}
 use lib.ListN.{length-set}
 use lib.Seq.{paste-zero}
 use Rattle.isup.proofs.Decoding.{digit_next, digits_done}

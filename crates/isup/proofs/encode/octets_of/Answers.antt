@@ -1,5 +1,4 @@
 -- The invariant: the first j pairs stand behind the two octets (Encoding).
-use Prim.Native.Nat.{◌-◌}
 use lib.Seq.{paste-zero}
 use Rattle.isup.proofs.Encoding.{pair_again, octets_done}
 use borrow.Author.Rules.{rules}

@@ -1,6 +1,5 @@
 -- The entries before the i-th slot are tallied: what is left is tallied after them.
 use borrow.Author.Rules.{rules}
-use Prim.Native.Nat.{◌-◌}
 use Rattle.judgement.proofs.Kept.{fits, begun, next_slot, ended}
 use Rattle.judgement.proofs.tallies.tally.Goals as goal
 

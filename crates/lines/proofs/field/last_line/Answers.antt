@@ -1,5 +1,4 @@
 -- The invariant: the value ends where what is left of it from `end` on does, and no value byte stands there. The measure is what is left of the text.
-use Prim.Native.Nat.{◌-◌}
 use Rattle.lines.proofs.Values.{ends_bad, ends, next_within, next_less, next_over, next_read}
 use Rattle.lines.proofs.field.last_line.Goals as goal
 

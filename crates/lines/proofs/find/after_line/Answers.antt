@@ -1,5 +1,4 @@
 -- The invariant: what is found from place at on is the answer. The measure is what is left of the text.
-use Prim.Native.Nat.{◌-◌}
 use Rattle.lines.proofs.Finds.{over, no_field, name_after, name_within, next_small, next_less, hit, next}
 use Rattle.lines.proofs.find.after_line.Goals as goal
 

@@ -1,5 +1,4 @@
 -- The invariant: what is stored, and what the fields from place at on come to, are the message. The measure is what is left of the text.
-use Prim.Native.Nat.{◌-◌}
 use Rattle.lines.proofs.Reached.{begin, over, unnamed_ends, endless_ends, end_after, value_folded, next_small, next_within, next_less, next_few, next}
 use borrow.Author.Rules.{rules}
 use Rattle.lines.proofs.header.fields.Goals as goal

@@ -1,7 +1,6 @@
 -- The words make the name with its colon.
 use mathlib.Core.Path.{refl}
 use native.Mathlib.Omega.{arith}
-use borrow.Author.Tests.{not-false}
 use Rattle.octets.specs.Classes.{text}
 use Rattle.sip.specs.Profile.{rows, find, name_of}
 use Rattle.lines.proofs.Quads.{word_at, both_at, then_at}

@@ -1,5 +1,4 @@
 -- The invariant: the run from the place on is what was passed and the run of what is left from i on.
-use Prim.Native.Nat.{◌-◌}
 use Rattle.lines.proofs.Blocks.{block_next}
 use borrow.Author.Rules.{rules}
 use Rattle.lines.proofs.scan.blocks.Goals as goal

@@ -4,9 +4,6 @@ use Prim.Native.Nat.{◌+◌, ◌-◌, ◌≤◌}
 use lib.ListN.{length, drop}
 use Rattle.octets.specs.Classes.{is_value}
 use Rattle.octets.specs.Scans.{run}
-use Rattle.lines.proofs.scan.blocks.Reads as reads
-use Rattle.lines.proofs.scan.blocks.Lts as lts
-use Rattle.lines.proofs.scan.sixteen.Reads as sixteen-reads
 use Rattle.lines.proofs.scan.blocks.Given as goal
 
 abbrev pub invariant-loop-i : goal.invariant-loop-i

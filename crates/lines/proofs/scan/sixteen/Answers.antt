@@ -1,5 +1,5 @@
 -- The invariant: the bytes that are looked at are value bytes, unless a control character was found.
-use Prim.Native.Nat.{◌+◌, ◌-◌, ◌<◌}
+use Prim.Native.Nat.{◌+◌, ◌<◌}
 use native.Mathlib.Omega.{arith}
 use lib.ListN.{get_or}
 use Rattle.lines.proofs.Blocks.{none_looked, found_looked, next_looked, block_looked}

@@ -2,9 +2,6 @@
 use Prim.Native.Nat.{◌+◌, ◌-◌, ◌≤◌}
 use lib.ListN.{length}
 use Rattle.lines.proofs.Blocks.{Looked}
-use Rattle.lines.proofs.scan.sixteen.Reads as reads
-use Rattle.lines.proofs.scan.sixteen.Lts as lts
-use Rattle.lines.proofs.scan.is_control.Reads as is-control-reads
 use Rattle.lines.proofs.scan.sixteen.Given as goal
 
 abbrev pub invariant-loop-j : goal.invariant-loop-j

@@ -1,5 +1,4 @@
 -- The invariant: the slots before the i-th are counted. The measure is how many are left.
-use Prim.Native.Nat.{◌-◌}
 use Rattle.lines.proofs.Counts.{none_counted, one_counted, all_counted}
 use borrow.Author.Rules.{rules}
 use Rattle.lines.proofs.slots.find.Goals as goal

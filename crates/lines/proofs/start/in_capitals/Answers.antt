@@ -1,6 +1,5 @@
 -- The words make the version as it is written.
 use native.Mathlib.Omega.{arith}
-use borrow.Author.Tests.{not-false}
 use Rattle.octets.specs.Classes.{text}
 use Rattle.lines.proofs.Quads.{word_at, both_at, then_at}
 use Rattle.lines.proofs.Starts.{all_words}

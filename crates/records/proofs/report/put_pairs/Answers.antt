@@ -1,5 +1,4 @@
 -- The pairs so far, and those that are left, are all.
-use Prim.Native.Nat.{◌-◌}
 use Rattle.records.proofs.Placing.{going_begin, going_next, going_end}
 use borrow.Author.Rules.{rules}
 use Rattle.records.proofs.report.put_pairs.Goals as goal

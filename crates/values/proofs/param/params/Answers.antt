@@ -1,5 +1,4 @@
 -- The invariant: what is read so far, and the parameters after it, are those of the whole text. Each turn reads a parameter of at least one byte.
-use Prim.Native.Nat.{◌-◌}
 use native.Mathlib.Omega.{arith}
 use Rattle.values.proofs.Params.{ended, stop, again, less}
 use Rattle.values.proofs.param.params.Goals as goal

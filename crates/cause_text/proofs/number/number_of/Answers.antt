@@ -16,8 +16,7 @@ use Rattle.cause_text.specs.declared.number.Number.TheVariants.{Is, Not}
 use Rattle.octets.specs.Classes.{is_digit}
 use Rattle.octets.specs.Scans.{all, decimal}
 use Rattle.cause_text.specs.Number.{number_of}
-use Rattle.cause_text.proofs.number.number_of.Statement.{statement}
-use Rattle.cause_text.proofs.number.number_of.Tie as tie
+use Rattle.cause_text.proofs.number.number_of.Goals as goal
 
 module _ (s : List ℕ) where
   short : length s < 1 → Not ≡ number_of s
@@ -63,67 +62,29 @@ module _ (v i n : ℕ) (below : v < 10 ^ i) (h : i < n) (few : n ≤ 19) where
 grows : (v i b : ℕ) → v < 10 ^ i → b ≤ 57 → v * 10 + (b - 48) < 10 ^ (i + 1)
 grows v i b h u = rw (add-one, pow-suc) (omega arith)
 
-abbrev invariant-loop : tie.invariant-loop
-invariant-loop s v₀ i₀ v i = (i ≤ length s) × (v < 10 ^ i) × (decimal 0 s ≡ decimal v (drop i s)) × (all is_digit s ≡ all is_digit (drop i s))
+pub returns-then-s-lt1 : goal.returns-then-s-lt1
+returns-then-s-lt1 c = search short
 
-abbrev decreases-loop : tie.decreases-loop
-decreases-loop s v₀ i₀ v i = length s - i
+pub returns-then-s-gt19 : goal.returns-then-s-gt19
+returns-then-s-gt19 c = search long
 
-returns : tie.Need-returns invariant-loop decreases-loop
-returns c = search short
+pub loop-i-init : goal.loop-i-init
+loop-i-init c = (search rules, search rules, refl, refl)
 
-returns-2 : tie.Need-returns-2 invariant-loop decreases-loop
-returns-2 c = search long
+pub returns-then-b-lt48 : goal.returns-then-b-lt48
+returns-then-b-lt48 c = search low
 
-loop-holds : tie.Need-loop-init invariant-loop decreases-loop
-loop-holds c = (search rules, search rules, refl, refl)
+pub returns-then-b-gt57 : goal.returns-then-b-gt57
+returns-then-b-gt57 c = search high
 
-shared-slice-read-b : tie.Need-shared-slice-read-b invariant-loop decreases-loop
-shared-slice-read-b c = search rules
+pub overflow_mul-v : goal.overflow_mul-v
+overflow_mul-v c = search times_fits
 
-returns-3 : tie.Need-returns-3 invariant-loop decreases-loop
-returns-3 c = search low
+pub overflow_add-v : goal.overflow_add-v
+overflow_add-v c = search plus_fits
 
-returns-4 : tie.Need-returns-4 invariant-loop decreases-loop
-returns-4 c = search high
+pub loop-i-preserved : goal.loop-i-preserved
+loop-i-preserved c = (search rules, search grows, search read_next, search digit_next)
 
-mul-v : tie.Need-overflow-mul-v invariant-loop decreases-loop
-mul-v c = search times_fits
-
-cast-v : tie.Need-overflow-cast-v invariant-loop decreases-loop
-cast-v c = search rules
-
-add-v : tie.Need-overflow-add-v invariant-loop decreases-loop
-add-v c = search plus_fits
-
-add-i : tie.Need-overflow-add-i invariant-loop decreases-loop
-add-i c = search rules
-
-loop-less : tie.Need-loop-smaller invariant-loop decreases-loop
-loop-less c = search rules
-
-loop-again : tie.Need-loop-preserved invariant-loop decreases-loop
-loop-again c = (search rules, search grows, search read_next, search digit_next)
-
-returns-5 : tie.Need-returns-5 invariant-loop decreases-loop
-returns-5 c = search done
-
-pub number-of-spec : {M : Type 1} → statement M
-number-of-spec =
-    tie.close
-    (tie.spec
-    invariant-loop
-    decreases-loop
-    returns
-    returns-2
-    loop-holds
-    shared-slice-read-b
-    returns-3
-    returns-4
-    mul-v
-    cast-v
-    add-v
-    add-i
-    loop-less
-    loop-again
-    returns-5)
+pub returns : goal.returns
+returns c = search done
