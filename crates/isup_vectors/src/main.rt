@@ -2,6 +2,7 @@
 // A case is its kind (0 forward, 1 backward, 2 a cause), home, the length of the code and the code, two bytes of length, high byte first,
 // and the bytes: a message, a parameter, or the eight bytes of a cause, high byte first.
 #![tactic(auto)]
+
 ghost use Rattle.std.specs.Prelude.{◌<◌};
 
 use std::io;
@@ -80,13 +81,7 @@ fn status<W: Write>(to: &mut W, bytes: &[u8]) -> io::Result<()> {
     write!(to, "{status} {refusal}")
 }
 
-fn show<W: Write>(
-    to: &mut W,
-    kind: u8,
-    home: bool,
-    code: &[u8],
-    bytes: &[u8],
-) -> io::Result<()> {
+fn show<W: Write>(to: &mut W, kind: u8, home: bool, code: &[u8], bytes: &[u8]) -> io::Result<()> {
     if kind == 0 {
         forward(to, bytes, code, home)?;
     } else if kind == 1 {

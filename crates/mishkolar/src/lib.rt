@@ -1,5 +1,6 @@
 // What a gateway in C or Rust calls: numbers and byte slices only. A slice is a pointer and a length on the C side.
 #![tactic(auto)]
+
 ghost use Rattle.std.specs.Prelude.{◌≡◌, ◌+◌, ◌≤◌, length};
 ghost use Rattle.causes.specs.Causes.{status, cause};
 ghost use Rattle.sip.specs.Readings.{count, reading_at};

@@ -1,5 +1,6 @@
 // What a gateway in C or Rust calls of the box for the old exchange: numbers, byte slices and lent arrays only.
 #![tactic(auto)]
+
 ghost use Rattle.std.specs.Prelude.{◌≡◌, not, eqb};
 ghost use Rattle.octets.specs.Classes.{bit};
 ghost use Rattle.isup.specs.Forward.{produced};

@@ -1,12 +1,12 @@
 // Replays recorded messages from standard input through the screen, and prints the report.
 #![tactic(auto)]
+
 ghost use Rattle.std.specs.Prelude.{◌≡◌, ◌+◌, ◌≤◌, length, take, IfOk, OnErr};
 ghost use Rattle.records.specs.Pieces.{IsPiece, Replayed, Filled, Prints};
 
+use records::Replay;
 use std::io;
 use std::io::{Read, Write};
-
-use records::Replay;
 
 // Reads mark, side and length, or what is there of them.
 fn read_head<R: Read>(input: &mut R, space: &mut [u8]) -> io::Result<usize>
@@ -23,7 +23,8 @@ fn read_message<R: Read>(input: &mut R, space: &mut [u8], len: usize) -> io::Res
     ensures { IfOk result (Filled space.old space.new len) }
 {
     let end = 5 + len;
-    streams::read_full(input, &mut space[5..end])
+    let got = streams::read_full(input, &mut space[5..end])?;
+    Ok(got)
 }
 
 // Reads one record, or what is there of it, to the front of the space, and returns how many bytes that are.

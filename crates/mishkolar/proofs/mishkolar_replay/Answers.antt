@@ -1,11 +1,9 @@
 -- The numbers of a replay are those of what it carries at the end.
 use mathlib.Core.Path.{◌≡◌, ap}
-use borrow.Author.Rules.{rules}
 use Rattle.records.specs.declared.Replay.{Replay}
 use Rattle.records.specs.Running.{State, numbers_in}
 use Rattle.mishkolar.specs.Numbers.{Counted}
-use Rattle.mishkolar.proofs.mishkolar_replay.Statement.{statement}
-use Rattle.mishkolar.proofs.mishkolar_replay.Tie as tie
+use Rattle.mishkolar.proofs.mishkolar_replay.Goals as goal
 
 counted : {r : Replay} (st : State) → r ≡ numbers_in st → Counted r.counts r.read r.end st
 counted st e =
@@ -15,11 +13,5 @@ counted st e =
       same_end = ap (λ (x : Replay). x.end) e;
     }
 
-replay-text-requires : tie.Need-replay-text-requires
-replay-text-requires c κs = search rules
-
-returns : tie.Need-returns
+pub returns : goal.returns
 returns c = search counted
-
-pub mishkolar-replay-spec : {M : Type 1} → statement M
-mishkolar-replay-spec = tie.close (tie.spec replay-text-requires returns)

@@ -7,8 +7,7 @@ use Rattle.octets.specs.Classes.{bit}
 use Rattle.sip.specs.declared.CallingAt.{CallingAt}
 use Rattle.gateway.specs.Callers.{Calling}
 use Rattle.mishkolar.specs.Numbers.{Calls}
-use Rattle.mishkolar.proofs.mishkolar_calling_number.Statement.{statement}
-use Rattle.mishkolar.proofs.mishkolar_calling_number.Tie as tie
+use Rattle.mishkolar.proofs.mishkolar_calling_number.Goals as goal
 
 calls : (m t : List ℕ) (x : CallingAt) → Calling m t x → {n : ℕ} → n ≡ bit x.from_trunk → Calls m t x.len x.start n
 calls m t x c e =
@@ -19,14 +18,5 @@ calls m t x c e =
       within = rw (← c.stands) c.within;
     }
 
-calling-at-requires : tie.Need-calling-at-requires
-calling-at-requires c κs = search rules
-
-flag-requires : tie.Need-flag-requires
-flag-requires c κs = search rules
-
-returns : tie.Need-returns
+pub returns : goal.returns
 returns c = search (calls, rules)
-
-pub mishkolar-calling-number-spec : {M : Type 1} → statement M
-mishkolar-calling-number-spec = tie.close (tie.spec calling-at-requires flag-requires returns)

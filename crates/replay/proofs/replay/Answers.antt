@@ -1,0 +1,21 @@
+-- Each turn takes a record or is the last (Texts).
+use Rattle.sip.specs.Calls.{none_held}
+use Rattle.records.proofs.Texts.{turn_first, turn_none, turn_over, turn_next, turn_last}
+use borrow.Author.Rules.{rules}
+use Rattle.replay.proofs.replay.Goals as goal
+
+pub loop-left-init : goal.loop-left-init
+unfolding none_held
+loop-left-init g c = (search rules, search turn_first)
+
+pub returns-then-n-lt1 : goal.returns-then-n-lt1
+returns-then-n-lt1 g c = search turn_none
+
+pub returns-then-st-ne0 : goal.returns-then-st-ne0
+returns-then-st-ne0 g c = let piece = c.in_ok-n.ensures in search (turn_over, rules)
+
+pub loop-left-preserved : goal.loop-left-preserved
+loop-left-preserved g c = let piece = c.in_ok-n.ensures in (search rules, search (turn_next, rules))
+
+pub returns : goal.returns
+returns g c = search turn_last
