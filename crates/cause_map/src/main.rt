@@ -1,5 +1,6 @@
 // Reads a cause value from standard input and prints its status, row and refusal; where the input is empty, the table of all causes.
 #![tactic(auto)]
+
 use std::io;
 use std::io::Write;
 

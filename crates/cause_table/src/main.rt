@@ -1,5 +1,6 @@
 // The program `cause_map` once more, with no input beside it: the table that it then prints is held to a stored one too.
 #![tactic(auto)]
+
 use std::io;
 use std::io::Write;
 

@@ -1,9 +1,9 @@
 // Screens one message from standard input as side 1, and prints the answer's numbers and the output.
 #![tactic(auto)]
-use std::io;
-use std::io::Write;
 
 use gateway::Verdict;
+use std::io;
+use std::io::Write;
 
 fn print_numbers<W: Write>(
     to: &mut W,

@@ -1,5 +1,4 @@
 -- The lines so far, and those that are left, are all.
-use Prim.Native.Nat.{◌-◌}
 use Rattle.cause_text.proofs.Placing.{going_begin, going_next, going_end}
 use borrow.Author.Rules.{rules}
 use Rattle.cause_text.proofs.table.put_table.Goals as goal
