@@ -3,7 +3,7 @@
  *
  * Every function takes any bytes and any numbers, always returns, reads nothing outside the bytes it is lent, keeps nothing and
  * allocates nothing. A pointer may be null where its length is 0. The parts of memory lent to one call must not overlap.
- * Link with libmishkolar.a, which `rt staticlib mishkolar` writes to target/staticlib.
+ * Link with libmishkolar.a, which `tools/build mishkolar` writes to target/staticlib.
  */
 #ifndef MISHKOLAR_H
 #define MISHKOLAR_H

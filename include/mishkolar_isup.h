@@ -4,7 +4,7 @@
  *
  * Every function takes any bytes and any numbers, always returns, reads nothing outside the bytes it is lent, keeps nothing and
  * allocates nothing. A pointer may be null where its length is 0. The parts of memory lent to one call must not overlap.
- * Link with libmishkolar_isup.a, which `rt staticlib mishkolar_isup` writes to target/staticlib. It does not need libmishkolar.a, which may
+ * Link with libmishkolar_isup.a, which `tools/build mishkolar_isup` writes to target/staticlib. It does not need libmishkolar.a, which may
  * be linked beside it.
  */
 #ifndef MISHKOLAR_ISUP_H

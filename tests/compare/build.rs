@@ -1,4 +1,4 @@
-//! Links target/staticlib/libmishkolar.a and libmishkolar_isup.a of the repository, which `rt staticlib` writes.
+//! Links target/staticlib/libmishkolar.a and libmishkolar_isup.a of the repository, which `tools/build` writes.
 use std::path::Path;
 
 /// The box for the old exchange stands above the first library, so it is named before it.
@@ -10,7 +10,7 @@ fn main() {
         let library = folder.join(format!("lib{name}.a"));
         println!("cargo:rerun-if-changed={}", library.display());
         if !library.exists() {
-            eprintln!("{} is not there: run `rt staticlib {name}` in the repository first", library.display());
+            eprintln!("{} is not there: run `tools/build {name}` in the repository first", library.display());
             std::process::exit(1);
         }
         println!("cargo:rustc-link-lib=static={name}");

@@ -1,4 +1,4 @@
--- What a place says, by its bytes; a is_well_formed pair is held where a place says it.
+-- What a place says, by its bytes; a well-formed pair is held where a place says it.
 use mathlib.Core.Path.{◌≡◌, refl, sym, ap, ◌∙◌}
 use mathlib.Core.Bool.{Bool, true, false, not, cond, ◌&&◌, ◌||◌, and-false}
 use mathlib.Core.List.{List, [], ◌∷◌}
@@ -66,7 +66,7 @@ module _ (t : List ℕ) (at : ℕ) where
               → {r : Bool} → r ≡ same tag y → r ≡ says (pair id tag) place
           tag_decides n eh ey er = let z : same id x ≡ true = sym e ∙ not-false b n in er ∙ sym (says_so ∙ rw (z, ey, eh))
 
--- ---- a place that says a is_well_formed pair holds it
+-- ---- a place that says a well-formed pair holds it
 
 ltb_suc : (m n : ℕ) → ltb m n ≡ ltb (suc m) (suc n)
 ltb_suc m n = go (ltb m n) refl

@@ -143,7 +143,7 @@ complete_occurs es rest e =
     none_empty true x e = refl
     none_empty false x e = never (cc)
 
--- a is_well_formed P-Asserted-Identity has an identity
+-- a well-formed P-Asserted-Identity has an identity
 some_identity : (v : List ℕ) → is_asserted v ≡ true → identities v ≡ [] → ⊥
 unfolding is_asserted schemes
 some_identity v e z = let y : false ≡ true = rw z at e in never (cc)

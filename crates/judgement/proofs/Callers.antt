@@ -165,7 +165,7 @@ module _ (method : List ℕ) where
   unfolding tallied asserted
   caller_is t k xs [] known h = known.told ∙ rw (append-nil xs)
   caller_is t k xs (e ∷ es) known h =
-      go (first_formed method (tels xs) e es known.so_far.are_allowed_lem h) (λ j ys. caller_is (next method t e) j ys es) (eqb e.number 15) refl
+      go (first_formed method (tels xs) e es known.so_far.are_allowed h) (λ j ys. caller_is (next method t e) j ys es) (eqb e.number 15) refl
     where
       go : FirstFormed method (tels xs) e es
           → ((j : ℕ) (ys : List Asserted) → Known (next method t e) j ys → first_malformed method (tels ys) es ≡ 0
@@ -183,5 +183,5 @@ module _ (method : List ℕ) where
   unfolding allowed mask caller_in
   total_caller es h =
       caller_is no_tally 0 [] es
-      (record { so_far = record { masked = refl; are_allowed_lem = refl }; told = refl; few = omega arith; none_yet = λ z. refl })
+      (record { so_far = record { masked = refl; are_allowed = refl }; told = refl; few = omega arith; none_yet = λ z. refl })
       h

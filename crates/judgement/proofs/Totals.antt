@@ -102,7 +102,7 @@ module _ (method : List ℕ) where
   -- the mask is that of the identities so far, and they are allowed
   pub record SoFar (t : Tally) (earlier : List Bool) : Type 0 where
     pub masked : t.schemes ≡ mask earlier
-    pub are_allowed_lem : allowed earlier ≡ true
+    pub are_allowed : allowed earlier ≡ true
 
   module _ (t : Tally) (earlier : List Bool) (e : Entry) where
     abbrev so_far : List Bool
@@ -124,7 +124,7 @@ module _ (method : List ℕ) where
         where
           go : (b : Bool) → formed ≡ b → (b && eqb (bit_and t.schemes f.schemes) 0) ≡ (b && allowed so_far)
           go true q =
-              rw (s.masked, found_schemes method e q p) (sym (allowed_disjoint earlier (brought e) s.are_allowed_lem (brought_allowed method e q p)))
+              rw (s.masked, found_schemes method e q p) (sym (allowed_disjoint earlier (brought e) s.are_allowed (brought_allowed method e q p)))
           go false q = refl
 
       -- a field that brings no identity
@@ -132,7 +132,7 @@ module _ (method : List ℕ) where
       unfolding brought
       good_is p =
           good method e.number e.value
-          ∙ rw (p, append-nil earlier, s.are_allowed_lem) (sym (and-true formed))
+          ∙ rw (p, append-nil earlier, s.are_allowed) (sym (and-true formed))
 
       fits_is : fits ≡ (formed && allowed so_far)
       fits_is = go (eqb e.number 15) refl
@@ -144,7 +144,7 @@ module _ (method : List ℕ) where
     pub next_schemes : SoFar t earlier → formed ≡ true → allowed so_far ≡ true → SoFar (next t e) so_far
     unfolding noted brought mask
     next_schemes s q a =
-        record { masked = go (eqb e.number 15) refl (mask_append earlier (brought e) a); are_allowed_lem = a }
+        record { masked = go (eqb e.number 15) refl (mask_append earlier (brought e) a); are_allowed = a }
       where
         go : (b : Bool) → eqb e.number 15 ≡ b → mask so_far ≡ bit_or (mask earlier) (mask (brought e))
             → cond b (bit_or t.schemes f.schemes) t.schemes ≡ mask so_far
@@ -185,4 +185,4 @@ module _ (method : List ℕ) where
 
       pub total_malformed : (tallied method no_tally es).malformed ≡ first_malformed method [] es
       unfolding allowed mask
-      total_malformed = malformed_is no_tally [] es listed (λ z. record { masked = refl; are_allowed_lem = refl })
+      total_malformed = malformed_is no_tally [] es listed (λ z. record { masked = refl; are_allowed = refl })

@@ -107,18 +107,18 @@ module _ (method : List ℕ) (c : Option Column) (i : ignored c 15 ≡ false) wh
       (rw s (asserting_formed others (earlier ++ map is_tel_uri ws) all)))
 
   pub allowed_formed : (fs : List Field) → IdentitiesAllowed fs → first_malformed method [] (only 15 (kept c fs)) ≡ 0
-  allowed_formed fs p = asserting_formed p.asserting [] ((allowed_read p.uris).1 p.are_allowed_lem)
+  allowed_formed fs p = asserting_formed p.asserting [] ((allowed_read p.uris).1 p.are_allowed)
 
   -- ---- and identities that are not malformed the grammar has allowed
 
   record Found (earlier : List Bool) (fs : List Field) : Type 0 where
     uris : List UriParts
     asserting : Asserting fs uris
-    are_allowed_lem : allowed (earlier ++ map is_tel_uri uris) ≡ true
+    are_allowed : allowed (earlier ++ map is_tel_uri uris) ≡ true
 
   identities_there : (earlier : List Bool) (fs : List Field) → allowed earlier ≡ true → first_malformed method earlier (only 15 (kept c fs)) ≡ 0
       → Found earlier fs
-  identities_there earlier [] a h = record { uris = []; asserting = nothing_asserted; are_allowed_lem = rw (append-nil earlier) a }
+  identities_there earlier [] a h = record { uris = []; asserting = nothing_asserted; are_allowed = rw (append-nil earlier) a }
   identities_there earlier (f ∷ fs) a h = go (eqb (number_of f.name) 15) refl (λ ws. identities_there ws fs)
     where
       v : List ℕ
@@ -129,7 +129,7 @@ module _ (method : List ℕ) (c : Option Column) (i : ignored c 15 ≡ false) wh
       go false p ih =
           let n = eqb-false (number_of f.name) 15 p in
           let later = ih earlier a (rw (only_other c i f fs n) at h) in
-          record { uris = later.uris; asserting = other_field n later.asserting; are_allowed_lem = later.are_allowed_lem }
+          record { uris = later.uris; asserting = other_field n later.asserting; are_allowed = later.are_allowed }
       go true p ih =
           let n = eqb-true (number_of f.name) 15 p in
           let g = first_formed method earlier (entry 15 v) (only 15 (kept c fs)) a (rw (only_here c i f fs n) at h) in
@@ -139,11 +139,11 @@ module _ (method : List ℕ) (c : Option Column) (i : ignored c 15 ≡ false) wh
           record {
             uris = ws ++ later.uris;
             asserting = asserting_field {us = later.uris} n d later.asserting;
-            are_allowed_lem = rw (map_append ws later.uris, ← append_assoc earlier (map is_tel_uri ws) (map is_tel_uri later.uris)) later.are_allowed_lem;
+            are_allowed = rw (map_append ws later.uris, ← append_assoc earlier (map is_tel_uri ws) (map is_tel_uri later.uris)) later.are_allowed;
           }
 
   pub formed_allowed : (fs : List Field) → first_malformed method [] (only 15 (kept c fs)) ≡ 0 → IdentitiesAllowed fs
   unfolding allowed
   formed_allowed fs h =
       let x = identities_there [] fs refl h in
-      record { uris = x.uris; asserting = x.asserting; are_allowed_lem = (allowed_read x.uris).0 x.are_allowed_lem }
+      record { uris = x.uris; asserting = x.asserting; are_allowed = (allowed_read x.uris).0 x.are_allowed }

@@ -1,5 +1,5 @@
 -- A message that is accepted has a Call-ID and a From, since no mandatory field is missing and every value is well formed; From's tag is a
--- token of 1 to 64 bytes by its derivation. So it has a is_well_formed pair.
+-- token of 1 to 64 bytes by its derivation. So it has a well-formed pair.
 use mathlib.Core.Path.{◌≡◌, refl}
 use mathlib.Core.Bool.{Bool, true, false, not, ◌&&◌}
 use mathlib.Core.List.{List, [], ◌∷◌, ◌++◌}

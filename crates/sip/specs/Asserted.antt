@@ -16,7 +16,7 @@ pub data Asserting : List Field → List UriParts → Type 0 where
 pub record IdentitiesAllowed (fs : List Field) : Type 0 where
   pub uris : List UriParts
   pub asserting : Asserting fs uris
-  pub are_allowed_lem : Allowed uris
+  pub are_allowed : Allowed uris
 
 -- "The calling number comes from the sip one (document 002, Table 5, note 1) in either order": the identities, and the one that it comes from
 pub data Calling : List UriParts → UriParts → Type 0 where

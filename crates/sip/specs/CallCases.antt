@@ -189,7 +189,7 @@ one = place_with eight ++ free 31
 abbrev full : List ℕ
 full = filled 32 33
 
--- places without a is_well_formed pair: the Call-ID is a byte too long, the tag is, a byte of either is outside its class
+-- places without a well-formed pair: the Call-ID is a byte too long, the tag is, a byte of either is outside its class
 abbrev long_id : List ℕ
 long_id = (129 ∷ replicate 128 65) ++ (64 ∷ replicate 64 97)
 

@@ -31,7 +31,7 @@ any_holds p (c ∷ cs) = holds p c || any_holds p cs
 abbrev pub HeldInAPlace : Type 0
 HeldInAPlace = (p : Pair) (t : List ℕ) → is_held p t ≡ any_holds p (places 32 t)
 
--- a place that a is_well_formed pair was written to has its 194 bytes and holds the pair
+-- a place that a well-formed pair was written to has its 194 bytes and holds the pair
 abbrev pub PlaceRead : Type 0
 PlaceRead = (p : Pair) → is_pair p ≡ true → (pair_at (place_with p) ≡ some p) × (length (place_with p) ≡ 194)
 
@@ -47,7 +47,7 @@ is_distinct (p ∷ ps) = not (is_in p ps) && is_distinct ps
 abbrev pub HeldOnce : Type 0
 HeldOnce = (t : List ℕ) → is_distinct (held t) ≡ true
 
--- what is held is a is_well_formed pair
+-- what is held is a well-formed pair
 abbrev pub HeldFormed : Type 0
 HeldFormed = (p : Pair) (t : List ℕ) → is_held p t ≡ true → is_pair p ≡ true
 

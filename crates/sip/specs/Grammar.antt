@@ -40,7 +40,7 @@ pub record Token (s : List ℕ) : Type 0 where
   pub bytes : Each is_token s
 
 -- "A quoted string closes at the first `"` that no backslash escapes.": what stands after its first `"`. A backslash escapes the one byte
--- after it, another backslash too. The page sets no other limit to the bytes, so this is wider than RFC 3261's qdtext and quoted_pair
+-- after it, another backslash too. The page sets no other limit to the bytes, so this is wider than RFC 3261's qdtext and quoted-pair
 pub data QuotedRest : List ℕ → Type 0 where
   close_quote : QuotedRest (34 ∷ [])
   qdtext : {b : ℕ} {s : List ℕ} → (b ≡ 34 → ⊥) → (b ≡ 92 → ⊥) → QuotedRest s → QuotedRest (b ∷ s)
@@ -149,7 +149,7 @@ pub data DisplayName : List ℕ → Type 0 where
   quoted_name : {q b : List ℕ} → QuotedString q → Each is_blank b → DisplayName (q ++ b)
   words_name : {w b : List ℕ} → Words w → Each is_blank b → DisplayName (w ++ b)
 
--- RFC 3261's name_addr, or a bare addr_spec: the text, and the parts of its URI
+-- RFC 3261's name-addr, or a bare addr-spec: the text, and the parts of its URI
 pub data Address : List ℕ → UriParts → Type 0 where
   name_addr : {d s : List ℕ} {u : UriParts} → DisplayName d → Uri s u → Address (d ++ (60 ∷ (s ++ (62 ∷ [])))) u
   addr_spec : {s : List ℕ} {u : UriParts} → Uri s u → tail_text u ≡ [] → Address s u
