@@ -41,7 +41,7 @@ are_allowed fs = eqb (first_malformed [] [] (only 15 (kept none fs))) 0
 -- two canonical values of one field; the flags: the identities of both messages are allowed, the values are equal as written, the field is
 -- From, it is P-Asserted-Identity
 abbrev two_values : Bool → Bool → Bool → Bool → List ℕ → List ℕ → Bool
-two_values both true fromField identity_field v w = true
+two_values both true from_field identity_field v w = true
 two_values both false true identity_field v w = is_from v && (is_from w && same (tag_of v) (tag_of w))
 two_values both false false true v w = both
 two_values both false false false v w = false

@@ -13,7 +13,7 @@ use Rattle.sip.specs.Refusals.{reason12, no_hops, reason13, all_tags, first_lack
 use Rattle.sip.specs.Refusals.{first_cseq_method, response_column_of, judged_response, judgement}
 use Rattle.sip.specs.Calls.{is_tag_value, is_pair, same_pair, is_in, distinct, places, table_of, stored, pair_at, place_with, free_place, pairs_in, held}
 use Rattle.sip.specs.Calls.{is_held, is_full, none_held, first_where, starts_with0, first_spare, new_place, placed, entered, holds, cleared, removed}
-use Rattle.sip.specs.Screen.{call_of, hides, closes as closesCall, masks, overfills, calls_after, decided, verdict, screened}
+use Rattle.sip.specs.Screen.{call_of, hides, closes as closes_call, masks, overfills, calls_after, decided, verdict, screened}
 use Rattle.sip.specs.Starred.{lines_of, call_with, call, printed, blank_buffer, starred}
 use Rattle.sip.specs.Responses.{response_with, written, responses}
 use Rattle.sip.specs.Privacy.{request_with, outgoing, call_with_privacy, masked, unmasked, privacies}
@@ -42,7 +42,7 @@ unfolding status cause status_entries class_ends next_above row_of status_of cau
     other_scheme reason7 is_uri reason8 first_repeat reason9 well_formed brought first_malformed reason10 exceeds reason11 missing_of reason12
     no_hops reason13 all_tags first_lacking reason14 reason15 reasons response_reasons judged_request first_cseq_method response_column_of
     judged_response judgement is_tag_value is_pair same_pair is_in distinct places table_of stored pair_at place_with free_place pairs_in held
-    is_held is_full none_held first_where starts_with0 first_spare new_place placed entered holds cleared removed call_of hides closesCall masks
+    is_held is_full none_held first_where starts_with0 first_spare new_place placed entered holds cleared removed call_of hides closes_call masks
     overfills calls_after decided verdict screened lines_of call_with call printed blank_buffer starred response_with written responses
     request_with outgoing call_with_privacy masked unmasked privacies other_call shown short_call short_sent bye_from bye_sent many_fields spaces
     stretched pairs two_fields any_withholds two_headers two_starts are_two_callers value_span value_spans spans count place reading_at reading
