@@ -119,14 +119,14 @@ module _ {m slots : List ℕ} {x : Message} {l : Start} (r : Reads m slots x l) 
           go none q n = let z : answer.refusal.reason ≡ 0 = reason_is ∙ rw q in absurd (h z)
           go (some a) q n = judged_is ∙ applies a q ∙ rw (q, answer_is (silent l) a n.1)
 
-      module _ (accepted-is : judged l es left ≡ accepted (passed l es left)) (fine : Fine method es left) where
+      module _ (accepted_is : judged l es left ≡ accepted (passed l es left)) (fine : Fine method es left) where
         passes_is : Passes m slots answer
         unfolding judged_from
         passes_is =
             record {
               message = passed l es left;
               header = r.header;
-              is_accepted = judged_is ∙ accepted-is;
+              is_accepted = judged_is ∙ accepted_is;
               is_read = r.is_read;
               short = r.short;
               few = r.few;
@@ -149,13 +149,13 @@ module _ {m slots : List ℕ} {x : Message} {l : Start} (r : Reads m slots x l) 
 
       accepts_is : Numbered o → (o ≡ none → judged l es left ≡ accepted (passed l es left)) → (o ≡ none → Fine method es left)
           → answer.refusal.reason ≡ 0 → Passes m slots answer
-      accepts_is k accepted-is fine z = go o refl k
+      accepts_is k accepted_is fine z = go o refl k
         where
           go : (p : Option Answer) → o ≡ p → Numbered p → Passes m slots answer
-          go none q n = passes_is (accepted-is q) (fine q)
+          go none q n = passes_is (accepted_is q) (fine q)
           go (some a) q n = let y : a.reason ≡ 0 = rw q at (sym reason_is ∙ z) in absurd (n.0 y)
 
       pub judges_is : Numbered o → ((a : Answer) → o ≡ some a → judged l es left ≡ refused (replied l a))
           → (o ≡ none → judged l es left ≡ accepted (passed l es left)) → (o ≡ none → Fine method es left) → Judges m slots answer
-      judges_is k applies accepted-is fine =
-          record { refuses = refuses_is k applies; accepts = accepts_is k accepted-is fine }
+      judges_is k applies accepted_is fine =
+          record { refuses = refuses_is k applies; accepts = accepts_is k accepted_is fine }

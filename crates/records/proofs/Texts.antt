@@ -56,7 +56,7 @@ piece a q r n got l k w v p e x = go (ltb n 5) refl
         omega (arith, whole_fits p x, wanted_le (take 5 a))
 
 -- what the two readings leave
-module _ (a d : List ℕ) (l : 65540 ≤ length d) (same-long : length a ≡ length d) {n : ℕ} (k : n ≤ 5) {t : List ℕ} (ht : t ≡ take n a)
+module _ (a d : List ℕ) (l : 65540 ≤ length d) (same_long : length a ≡ length d) {n : ℕ} (k : n ≤ 5) {t : List ℕ} (ht : t ≡ take n a)
     {len : ℕ} (hl : len ≡ wanted t) where
   pub piece_read : {b : List ℕ} {got size : ℕ} → Filled a b len got → size ≡ n + got → IsPiece (take size b)
   piece_read {b} {got} {size} f z =
@@ -126,17 +126,17 @@ module _ (numbers : Replay) (calls : List ℕ) (left : ℕ) (t : Turn (state_of 
   turn_none = let z : stepped st [] ≡ st = rw t.going in rw z at (may_end [] (λ e. absurd (omega (arith, whole_fits [] e))))
 
   -- n bytes were read to the front of a space that was d
-  module _ (space d : List ℕ) (long : length d ≡ 65540) (same-long : length space ≡ length d) (n : ℕ) (some : 1 ≤ n) (i : IsPiece (take n space))
-      {p : List ℕ} (hp : p ≡ take n space) {r : Replay} {after-it : List ℕ} (e : state_of r after-it ≡ stepped st p) where
+  module _ (space d : List ℕ) (long : length d ≡ 65540) (same_long : length space ≡ length d) (n : ℕ) (some : 1 ≤ n) (i : IsPiece (take n space))
+      {p : List ℕ} (hp : p ≡ take n space) {r : Replay} {after_it : List ℕ} (e : state_of r after_it ≡ stepped st p) where
     pub turn_over : (r.end ≡ 0 → ⊥) → Replayed r
     turn_over _ =
         let a : r ≡ numbers_in (stepped st (take n space)) = ap numbers_in (e ∙ ap (stepped st) hp) in
         rw a (may_end (take n space) i)
 
-    pub turn_next : {k : ℕ} → r.end ≡ 0 → 0 < left → k ≡ left - 1 → Turn (state_of r after-it) k
+    pub turn_next : {k : ℕ} → r.end ≡ 0 → 0 < left → k ≡ left - 1 → Turn (state_of r after_it) k
     turn_next z l y =
         let q : List ℕ = take n space in
-        let a : state_of r after-it ≡ stepped st q = e ∙ ap (stepped st) hp in
+        let a : state_of r after_it ≡ stepped st q = e ∙ ap (stepped st) hp in
         let ends : (stepped st q).end ≡ 0 = ap (λ (s : State). s.end) (sym a) ∙ z in
         let c = step_counted st q t.going (omega (arith, length-take n space)) ends in
         let one : r.read ≡ st.read + 1 = ap (λ (s : State). s.read) a ∙ c.one_read in
