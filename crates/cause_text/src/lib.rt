@@ -1,13 +1,12 @@
 // What people read of the cause map.
 #![tactic(auto)]
 
-ghost use Rattle.std.specs.Prelude.{◌≡◌, ◌≤◌, length, IfOk, OnErr};
+ghost use Rattle.std.specs.Prelude.{◌≤◌, length};
 ghost use Rattle.emit.specs.Put.{Wrote, Placed};
 ghost use Rattle.cause_text.specs.Text.{printed};
 ghost use Rattle.cause_text.specs.Input.{Answers};
 
 use number::Number;
-use std::io;
 use std::io::Read;
 
 mod number;
@@ -39,12 +38,11 @@ pub fn put_lines(out: &mut [u8], input: &[u8]) -> usize
 }
 
 // Reads the input, and writes what is printed for it. More bytes are read than a line of 19 digits has, so that a longer one is seen
-// to be longer. Where a read fails, the buffer stays.
-pub fn answer<R: Read>(input: &mut R, out: &mut [u8]) -> io::Result<usize>
-    ensures ok { IfOk result (λ n. Answers out.old n out.new) }
-    ensures err { OnErr result (out.new ≡ out.old) }
+// to be longer.
+pub fn answer<R: Read>(from: &mut R, out: &mut [u8]) -> usize
+    ensures { Answers out.old result out.new }
 {
-    let mut line = [0u8; 32];
-    let n = streams::read_full(input, &mut line)?;
-    Ok(put_lines(out, octets::first(&line, n)))
+    let mut input = [0u8; 32];
+    let n = streams::read_full(from, &mut input);
+    put_lines(out, octets::first(&input, n))
 }

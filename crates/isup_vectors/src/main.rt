@@ -100,25 +100,25 @@ fn case<R: Read, W: Write>(
     bytes: &mut [u8],
 ) -> io::Result<bool> {
     let mut head = [0u8; 3];
-    if streams::read_full(input, &mut head)? != 3 {
+    if streams::read_full(input, &mut head) != 3 {
         return Ok(false);
     }
     let size = wide(head[2]);
     if code.len() < size {
         return Ok(false);
     }
-    if streams::read_full(input, &mut code[..size])? != size {
+    if streams::read_full(input, &mut code[..size]) != size {
         return Ok(false);
     }
     let mut measure = [0u8; 2];
-    if streams::read_full(input, &mut measure)? != 2 {
+    if streams::read_full(input, &mut measure) != 2 {
         return Ok(false);
     }
     let len = number(measure[0], measure[1]);
     if bytes.len() < len {
         return Ok(false);
     }
-    if streams::read_full(input, &mut bytes[..len])? != len {
+    if streams::read_full(input, &mut bytes[..len]) != len {
         return Ok(false);
     }
     show(

@@ -98,7 +98,7 @@ fn case<R: Read, W: Write>(
     table: &mut [u8; 6208],
 ) -> io::Result<bool> {
     let mut head = [0u8; 6];
-    if streams::read_full(input, &mut head)? != 6 {
+    if streams::read_full(input, &mut head) != 6 {
         return Ok(false);
     }
     let room = number(head[2], head[3]);
@@ -109,7 +109,7 @@ fn case<R: Read, W: Write>(
     if out.len() < room {
         return Ok(false);
     }
-    if streams::read_full(input, &mut message[..len])? != len {
+    if streams::read_full(input, &mut message[..len]) != len {
         return Ok(false);
     }
     let given = octets::first(message, len);

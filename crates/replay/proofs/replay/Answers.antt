@@ -12,10 +12,10 @@ pub returns-then-n-lt1 : goal.returns-then-n-lt1
 returns-then-n-lt1 g c = search turn_none
 
 pub returns-then-st-ne0 : goal.returns-then-st-ne0
-returns-then-st-ne0 g c = let piece = c.in_ok-n.ensures in search (turn_over, rules)
+returns-then-st-ne0 g c = search (turn_over, rules)
 
 pub loop-left-preserved : goal.loop-left-preserved
-loop-left-preserved g c = let piece = c.in_ok-n.ensures in (search rules, search (turn_next, rules))
+loop-left-preserved g c = (search rules, search (turn_next, rules))
 
 pub returns : goal.returns
 returns g c = search turn_last

@@ -2,5 +2,5 @@
 use Rattle.records.proofs.Lengths.{prints}
 use Rattle.replay.proofs.report.Goals as goal
 
-pub returns-clause-ok : goal.returns-clause-ok
-returns-clause-ok g c = let replayed = c.in_ok-st.ensures in search prints
+pub returns : goal.returns
+returns g c = search prints
