@@ -1,16 +1,67 @@
--- The first place that passes a test, looked for from a place on.
+-- The places of a table, and the first place that passes a test, looked for from a place on.
 use mathlib.Core.Path.{◌≡◌, refl, sym, ap, ◌∙◌}
 use mathlib.Core.Bool.{Bool, true, false, cond}
 use mathlib.Core.List.{List, [], ◌∷◌}
-use Prim.Native.Nat.{ℕ, zero, suc, ◌+◌, ◌*◌, ◌-◌, ◌≤◌, ◌<◌}
+use Prim.Native.Nat.{ℕ, zero, suc, ◌+◌, ◌*◌, ◌-◌, ◌/◌, ◌≤◌, ◌<◌}
 use native.Mathlib.Omega.{arith}
-use lib.Dec.{eqb}
+use lib.Dec.{ltb}
 use lib.ListN.{length, take, drop, get_or, length-drop}
-use lib.Seq.{drop-drop, get_or-take, get_or-drop, length-take-le}
-use borrow.Author.Tests.{eq-eqb, ne_eqb}
-use Rattle.sip.specs.Calls.{places, first_where, starts_with0}
+use lib.Seq.{drop-drop, length-take-le}
+use borrow.Author.Tests.{ltb-true, ltb-false}
+use Rattle.std.proofs.Common.{Option, Some, None, position}
+use Rattle.std.specs.Simd.{first_chunks}
+use Rattle.std.specs.List.{position_or_len}
+use Rattle.std.proofs.lemmas.List.Recursion.{is_position_or_len}
+use Rattle.sip.specs.Calls.{places, first_where}
+use Rattle.sip.proofs.Tests.{never}
 use Rattle.sip.proofs.Calls.Places.{places_length, first_where_lem}
-use Rattle.calls.specs.Places.{starts_with}
+
+-- ---- the places of a table
+
+chunks_places : (n : ℕ) (t : List ℕ) → first_chunks 194 n t ≡ places n t
+unfolding places
+chunks_places zero t = refl
+chunks_places (suc n) t = rw (chunks_places n (drop 194 t))
+
+pub places_are : (t : List ℕ) → length t ≡ 6208 → {front : List (List ℕ)} → front ≡ first_chunks 194 (length t / 194) t → {cs : List (List ℕ)} → cs ≡ front
+    → cs ≡ places 32 t
+places_are t l e f = f ∙ e ∙ rw l (chunks_places 32 t)
+
+-- ---- what std's search says
+
+position_first : (p : List ℕ → Bool) (cs : List (List ℕ)) → first_where p cs ≡ position_or_len p cs
+unfolding first_where
+position_first p cs = is_position_or_len (first_where p) p refl (λ c cs. let z : suc (first_where p cs) ≡ 1 + first_where p cs = omega arith in rw (← z)) cs
+
+module _ (p : List ℕ → Bool) (t : List ℕ) {r : Option ℕ} (e : r ≡ position p (places 32 t)) where
+  position_is : r ≡ cond (ltb (first_where p (places 32 t)) 32) (Some (first_where p (places 32 t))) None
+  position_is = e ∙ rw (← position_first p (places 32 t), places_length 32 t)
+
+  pub found_first : {k : ℕ} → r ≡ Some k → k ≡ first_where p (places 32 t)
+  found_first {k} f = go (ltb (first_where p (places 32 t)) 32) (sym f ∙ position_is)
+    where
+      go : (b : Bool) → Some k ≡ cond b (Some (first_where p (places 32 t))) None → k ≡ first_where p (places 32 t)
+      go true x = cc
+      go false x = never (cc)
+
+  pub found_within : {k : ℕ} → r ≡ Some k → k < 32
+  found_within {k} f = go (ltb (first_where p (places 32 t)) 32) refl (sym f ∙ position_is)
+    where
+      go : (b : Bool) → ltb (first_where p (places 32 t)) 32 ≡ b → Some k ≡ cond b (Some (first_where p (places 32 t))) None → k < 32
+      go true y x = let z : k ≡ first_where p (places 32 t) = cc in omega (arith, z, ltb-true (first_where p (places 32 t)) 32 y)
+      go false y x = never (cc)
+
+  pub unfound : r ≡ None → 32 ≤ first_where p (places 32 t)
+  unfound f = go (ltb (first_where p (places 32 t)) 32) refl (sym f ∙ position_is)
+    where
+      go : (b : Bool) → ltb (first_where p (places 32 t)) 32 ≡ b → None ≡ cond b (Some (first_where p (places 32 t))) None → 32 ≤ first_where p (places 32 t)
+      go true y x = never (cc)
+      go false y x = ltb-false (first_where p (places 32 t)) 32 y
+
+pub first_same : (p q : List ℕ → Bool) → ((c : List ℕ) → p c ≡ q c) → (cs : List (List ℕ)) → first_where p cs ≡ first_where q cs
+unfolding first_where
+first_same p q e [] = refl
+first_same p q e (c ∷ cs) = rw (e c, first_same p q e cs)
 
 -- ---- the places from k on
 
@@ -39,13 +90,16 @@ drop_places (suc m) (suc n) t =
     let y : suc m * 194 ≡ 194 + m * 194 = omega arith in
     drop_places m n (drop 194 t) ∙ rw (z, y, drop-drop (m * 194) 194 t)
 
-pub get_d_places : (j n : ℕ) (t : List ℕ) → j < n → get_or (places n t) j [] ≡ take 194 (drop (j * 194) t)
+pub get_places : (j n : ℕ) (t d : List ℕ) → j < n → get_or (places n t) j d ≡ take 194 (drop (j * 194) t)
 unfolding places
-get_d_places j zero t h = absurd (omega arith)
-get_d_places zero (suc n) t h = refl
-get_d_places (suc j) (suc n) t h =
+get_places j zero t d h = absurd (omega arith)
+get_places zero (suc n) t d h = refl
+get_places (suc j) (suc n) t d h =
     let y : suc j * 194 ≡ 194 + j * 194 = omega arith in
-    get_d_places j n (drop 194 t) (omega arith) ∙ rw (y, drop-drop (j * 194) 194 t)
+    get_places j n (drop 194 t) d (omega arith) ∙ rw (y, drop-drop (j * 194) 194 t)
+
+pub get_d_places : (j n : ℕ) (t : List ℕ) → j < n → get_or (places n t) j [] ≡ take 194 (drop (j * 194) t)
+get_d_places j n t h = get_places j n t [] h
 
 -- ---- the first
 
@@ -112,44 +166,3 @@ module _ (p : List ℕ → Bool) (t : List ℕ) where
 
 pub place_long : (t : List ℕ) → length t ≡ 6208 → (k : ℕ) → k < 32 → length (take 194 (drop (k * 194) t)) ≡ 194
 place_long t l k h = length-take-le 194 (drop (k * 194) t) (rw (length-drop (k * 194) t) (omega arith))
-
-module _ (t : List ℕ) (at : ℕ) where
-  -- a byte of the place is one of the table
-  pub byte_at : (i : ℕ) → i < 194 → get_or (take 194 (drop at t)) i 0 ≡ get_or t (at + i) 0
-  byte_at i h = get_or-take 194 (drop at t) i 0 h ∙ get_or-drop at t i 0
-
-  pub first_at : get_or (take 194 (drop at t)) 0 0 ≡ get_or t at 0
-  first_at = let z : at + 0 ≡ at = omega arith in byte_at 0 (omega arith) ∙ rw z
-
--- ---- the first place whose first byte is 0
-
-module _ (t : List ℕ) (k : ℕ) {at : ℕ} (ea : at ≡ k * 194) {b : ℕ} (eb : b ≡ get_or t at 0) where
-  first_is : get_or (take 194 (drop (k * 194) t)) 0 0 ≡ b
-  first_is = first_at t (k * 194) ∙ sym (eb ∙ rw ea)
-
-  is_empty : b < 1 → starts_with0 (take 194 (drop (k * 194) t)) ≡ true
-  unfolding starts_with0
-  is_empty h = let z : b ≡ 0 = omega arith in rw (first_is, z)
-
-  is_filled : 1 ≤ b → starts_with0 (take 194 (drop (k * 194) t)) ≡ false
-  unfolding starts_with0
-  is_filled h = rw (first_is, ne_eqb b 0 (λ y. omega arith))
-
-  module _ (e : first_where starts_with0 (places 32 t) ≡ k + first_where starts_with0 (places (32 - k) (drop (k * 194) t))) (h : k < 32) where
-    pub empty_here : b < 1 → k ≡ first_where starts_with0 (places 32 t)
-    empty_here z = from_here starts_with0 t (first_where starts_with0 (places 32 t)) k e h (is_empty z)
-
-    pub empty_later : 1 ≤ b → {j : ℕ} → j ≡ k + 1
-        → first_where starts_with0 (places 32 t) ≡ j + first_where starts_with0 (places (32 - j) (drop (j * 194) t))
-    empty_later z q = from_next starts_with0 t (first_where starts_with0 (places 32 t)) k e h (is_filled z) q
-
--- ---- a place by its first bytes
-
-module _ (t : List ℕ) (at n b : ℕ) {m : ℕ} (em : m ≡ get_or t at 0) where
-  pub start_differs : (m ≡ n → ⊥) → false ≡ starts_with n b (take 194 (drop at t))
-  unfolding starts_with
-  start_differs d = rw (first_at t at, ← em, ne_eqb m n d)
-
-  pub start_is : m ≡ n → {next : ℕ} → next ≡ at + 1 → eqb (get_or t next 0) b ≡ starts_with n b (take 194 (drop at t))
-  unfolding starts_with
-  start_is d q = rw (first_at t at, ← em, eq-eqb m n d, byte_at t at 1 (omega arith), ← q)

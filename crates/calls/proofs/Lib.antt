@@ -1,9 +1,8 @@
 pub mod Texts
 pub mod Firsts
 pub mod Says
-pub mod Forms
-pub mod Removing
 pub mod Placing
+pub mod Removing
 pub mod Masks
 pub mod Parts
 pub mod Taken

@@ -6,8 +6,8 @@ use Prim.Native.Nat.{ℕ, zero, suc, ◌+◌, ◌*◌, ◌-◌, ◌≤◌, ◌<�
 use native.Mathlib.Omega.{arith}
 use lib.Dec.{eqb, ltb}
 use lib.ListN.{length, take, drop, get_or, set, replicate, length-drop, length-map}
-use lib.Seq.{take_all, take-suc, take-suc-set, get_or-take, get_or-drop}
-use borrow.Author.Tests.{eqb-true, eq-eqb, ne_eqb, lt-ltb, le-ltb, ltb-true, ltb-false}
+use lib.Seq.{take_all, take-take, take-suc, take-suc-set, get_or-take, get_or-drop}
+use borrow.Author.Tests.{eqb-true, eq-eqb, ne_eqb, ltb-true, ltb-false}
 use Rattle.octets.specs.Scans.{same}
 use Rattle.sip.specs.Calls.{places, first_where}
 use Rattle.sip.proofs.Tests.{never, and_left, and_right}
@@ -15,42 +15,7 @@ use Rattle.sip.proofs.Texts.{same_eq, same_refl}
 use Rattle.sip.proofs.Calls.Places.{places_length, first_where_lem}
 use Rattle.calls.specs.Parts.{start_of, size_of, part_of, agree, first_like, firsts_of}
 use Rattle.calls.proofs.Texts.{same_cons}
-use Rattle.calls.proofs.Firsts.{place_long, get_d_places, first_at, from_start, from_here, from_next, from_jump}
-use Rattle.calls.proofs.Says.{part_at, second_at}
-
--- ---- where a part starts, and its size
-
-module _ (i : ℕ) where
-  pub start_first : i < 1 → 0 ≡ start_of i
-  unfolding start_of
-  start_first h = rw (lt-ltb i 1 h)
-
-  pub start_second : 1 ≤ i → i < 2 → 65 ≡ start_of i
-  unfolding start_of
-  start_second h k = rw (le-ltb i 1 h, lt-ltb i 2 k)
-
-  pub start_third : 2 ≤ i → 129 ≡ start_of i
-  unfolding start_of
-  start_third h = rw (le-ltb i 1 (omega arith), le-ltb i 2 h)
-
-  module _ (t : List ℕ) (at : ℕ) where
-    module _ {n : ℕ} (e : n ≡ get_or t at 0) where
-      pub size_first : i < 1 → {m : ℕ} → m ≡ min n 64 → {r : ℕ} → r ≡ 1 + m → r ≡ size_of i (take 194 (drop at t))
-      unfolding size_of
-      size_first h f g = g ∙ rw (lt-ltb i 1 h, first_at t at, ← e, f)
-
-      pub size_none : 1 ≤ i → i < 2 → n < 64 → 0 ≡ size_of i (take 194 (drop at t))
-      unfolding size_of
-      size_none h k l = rw (le-ltb i 1 h, lt-ltb i 2 k, first_at t at, ← e) (omega arith)
-
-      pub size_second : 1 ≤ i → i < 2 → 64 ≤ n → {m : ℕ} → m ≡ n - 64 → {r : ℕ} → r ≡ min m 64 → r ≡ size_of i (take 194 (drop at t))
-      unfolding size_of
-      size_second h k l f g = g ∙ rw (le-ltb i 1 h, lt-ltb i 2 k, first_at t at, ← e, f)
-
-    pub size_third : 2 ≤ i → {second : ℕ} → second ≡ at + 129 → {n : ℕ} → n ≡ get_or t second 0 → {m : ℕ} → m ≡ min n 64 → {r : ℕ} → r ≡ 1 + m
-        → r ≡ size_of i (take 194 (drop at t))
-    unfolding size_of
-    size_third h s e f g = g ∙ rw (le-ltb i 1 (omega arith), le-ltb i 2 h, second_at t at s, ← e, f)
+use Rattle.calls.proofs.Firsts.{place_long, get_d_places, first_same, from_start, from_here, from_next, from_jump}
 
 -- ---- agreement
 
@@ -80,11 +45,6 @@ agree_right zero c d e a = refl
 agree_right (suc i) c d e a = rw (agree_right i c d e (agree_before i c d a), agree_part i c d a)
 
 -- ---- the first place that agrees
-
-first_same : (p q : List ℕ → Bool) → ((c : List ℕ) → p c ≡ q c) → (cs : List (List ℕ)) → first_where p cs ≡ first_where q cs
-unfolding first_where
-first_same p q e [] = refl
-first_same p q e (c ∷ cs) = rw (e c, first_same p q e cs)
 
 first_bound : (p : List ℕ → Bool) (cs : List (List ℕ)) (k : ℕ) → k < length cs → p (get_or cs k []) ≡ true → first_where p cs ≤ k
 unfolding first_where
@@ -234,35 +194,50 @@ module _ (i : ℕ) (t : List ℕ) (l : length t ≡ 6208) (k : ℕ) (hk : k < 32
       reached_none h =
           from_here (λ d. agree (suc i) d own) t (first_like (suc i) (places 32 t) own) first reached_start (omega (arith, reached_within)) (none_differs h)
 
-      module _ (ln : n ≤ 65) {from : ℕ} (es : from ≡ start_of i) (ls : from ≤ 129) {mine : ℕ} (eo : mine ≡ k * 194 + from) (j : ℕ) (hj : j < k) {at : ℕ}
-          (ea : at ≡ j * 194 + from) {other : ℕ} (ej : other ≡ get_or firsts j 0) {b : Bool}
-          (eb : b ≡ (eqb other first && same (take n (drop at t)) (take n (drop mine t)))) where
-        joined : b ≡ agree (suc i) (take 194 (drop (j * 194) t)) own
-        unfolding agree
-        joined =
-            let x : other ≡ first_like i (places 32 t) (take 194 (drop (j * 194) t)) = ej ∙ rw ef (firsts_at i t j (omega arith)) in
-            eb ∙ rw (x, first_is, agree_first i t j k (omega arith) hk) (go (agree i (take 194 (drop (j * 194) t)) own) refl)
-          where
-            bytes : (m : ℕ) {at : ℕ} → at ≡ m * 194 + from → take n (drop at t) ≡ take (size_of i own) (drop (start_of i) (take 194 (drop (m * 194) t)))
-            bytes m f = rw (f, ← en, ← es) (sym (part_at t (m * 194) from n (omega arith)))
+      module _ (ln : n ≤ 65) {y : List ℕ} (ey : y ≡ take 65 (drop (start_of i) own)) (j : ℕ) (hj : j < k) {x : List ℕ}
+          (ex : x ≡ take 65 (drop (start_of i) (take 194 (drop (j * 194) t)))) {b : Bool} (eb : b ≡ same (take n x) (take n y)) (r : Reached i t k j) where
+        abbrev that : List ℕ
+        that = take 194 (drop (j * 194) t)
 
-            go : (a : Bool) → agree i (take 194 (drop (j * 194) t)) own ≡ a
-                → (a && same (take n (drop at t)) (take n (drop mine t))) ≡ (a && same (part_of i (take 194 (drop (j * 194) t))) (part_of i own))
-            go true a =
-                rw (bytes j ea, bytes k eo)
-                (sym (part_compared i (take 194 (drop (j * 194) t)) own (place_long t l j (omega arith)) (place_long t l k hk) a))
+        joined : agree i that own ≡ true → b ≡ same (part_of i that) (part_of i own)
+        joined a =
+            eb
+            ∙ rw (ex, ey, take-take n 65 (drop (start_of i) that) ln, take-take n 65 (drop (start_of i) own) ln, en)
+            (sym (part_compared i that own (place_long t l j (omega arith)) (place_long t l k hk) a))
+
+        -- the two have the same first in the parts before
+        agrees : {other : ℕ} → other ≡ get_or firsts j 0 → eqb other first ≡ agree i that own
+        agrees {other} ej =
+            let x : other ≡ first_like i (places 32 t) that = ej ∙ rw ef (firsts_at i t j (omega arith)) in
+            rw (x, first_is) (agree_first i t j k (omega arith) hk)
+
+        pub reached_here : get_or firsts j 0 ≡ first → b ≡ true → j ≡ first_like (suc i) (places 32 t) own
+        unfolding Reached agree
+        reached_here o y =
+            let a : agree i that own ≡ true = sym (agrees refl) ∙ eq-eqb (get_or firsts j 0) first o in
+            from_here (λ d. agree (suc i) d own) t (first_like (suc i) (places 32 t) own) j r (omega arith) (rw (a, ← joined a, y))
+
+        not_joined : agree (suc i) that own ≡ false → {m : ℕ} → m ≡ j + 1 → Reached i t k m
+        unfolding Reached
+        not_joined y q = from_next (λ d. agree (suc i) d own) t (first_like (suc i) (places 32 t) own) j r (omega arith) y q
+
+        pub reached_later : b ≡ false → {m : ℕ} → m ≡ j + 1 → Reached i t k m
+        unfolding agree
+        reached_later y q = not_joined (go (agree i that own) refl) q
+          where
+            go : (c : Bool) → agree i that own ≡ c → (c && same (part_of i that) (part_of i own)) ≡ false
+            go true a = sym (joined a) ∙ y
             go false a = refl
 
-        module _ (r : Reached i t k j) where
-          pub reached_here : b ≡ true → j ≡ first_like (suc i) (places 32 t) own
-          unfolding Reached
-          reached_here y =
-              from_here (λ d. agree (suc i) d own) t (first_like (suc i) (places 32 t) own) j r (omega arith) (sym joined ∙ y)
-
-          pub reached_later : b ≡ false → {m : ℕ} → m ≡ j + 1 → Reached i t k m
-          unfolding Reached
-          reached_later y q =
-              from_next (λ d. agree (suc i) d own) t (first_like (suc i) (places 32 t) own) j r (omega arith) (sym joined ∙ y) q
+      module _ (j : ℕ) (hj : j < k) (r : Reached i t k j) where
+        -- the two have another first in the parts before
+        pub reached_other : (get_or firsts j 0 ≡ first → ⊥) → {m : ℕ} → m ≡ j + 1 → Reached i t k m
+        unfolding Reached agree
+        reached_other o {m} q =
+            let x : get_or firsts j 0 ≡ first_like i (places 32 t) (take 194 (drop (j * 194) t)) = rw ef (firsts_at i t j (omega arith)) in
+            let a : agree i (take 194 (drop (j * 194) t)) own ≡ false =
+            sym (agree_first i t j k (omega arith) hk) ∙ rw (← x, ← first_is) (ne_eqb (get_or firsts j 0) first o) in
+            from_next (λ d. agree (suc i) d own) t (first_like (suc i) (places 32 t) own) j r (omega arith) (rw a) q
 
   pub reached_end : (j : ℕ) → Reached i t k j → j ≤ k → k ≤ j → k ≡ first_like (suc i) (places 32 t) own
   unfolding Reached

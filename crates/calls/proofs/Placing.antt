@@ -2,23 +2,30 @@
 use mathlib.Core.Path.{◌≡◌, refl, sym, ap, ◌∙◌}
 use mathlib.Core.Bool.{Bool, true, false, cond, and-false}
 use mathlib.Core.List.{List, [], ◌∷◌, ◌++◌, append_assoc}
-use Prim.Native.Nat.{ℕ, zero, suc, ◌+◌, ◌*◌, ◌-◌, ◌%◌, ◌≤◌, ◌<◌}
+use Prim.Native.Nat.{ℕ, zero, suc, ◌+◌, ◌*◌, ◌-◌, ◌≤◌, ◌<◌}
 use native.Mathlib.Omega.{arith}
 use lib.Dec.{leb}
 use lib.ListN.{length, take, drop, set, replicate, length-append, length-replicate, replicate-append-replicate}
 use lib.Seq.{take_at, drop_at, drop-drop, set_at, set_out, append_snoc}
 use borrow.Author.Tests.{le-leb, lt-leb}
+use borrow.Rule.Slice.PartMut.{put_mid}
 use Rattle.emit.specs.Put.{Wrote}
 use Rattle.emit.proofs.Laws.{wrote_room}
 use Rattle.sip.specs.Calls.{places, place_with, placed}
-use Rattle.sip.proofs.Calls.Places.{places_length, table_places, place_length}
+use Rattle.sip.proofs.Calls.Places.{places_length, table_places}
 use Rattle.sip.proofs.Calls.Tables.{placed_bytes}
 use Rattle.calls.specs.Places.{pair, fits}
 
 -- ---- the table
 
+-- one place is written over
+pub written : (t : List ℕ) (k : ℕ) (y : List ℕ) → put_mid (k * 194) (k * 194 + 194 - k * 194) t y ≡ take (k * 194) t ++ (y ++ drop (k * 194 + 194) t)
+written t k y =
+    let z : k * 194 + 194 - k * 194 ≡ 194 = omega arith in
+    ap (λ (u : List ℕ). take (k * 194) t ++ (y ++ u)) (rw z (drop-drop 194 (k * 194) t))
+
 module _ (t : List ℕ) (l : length t ≡ 6208) (k : ℕ) (id tag : List ℕ) where
-  pub placed_nowhere : 31 < k → t ≡ cond (fits (pair id tag)) (placed k (pair id tag) t) t
+  pub placed_nowhere : 32 ≤ k → t ≡ cond (fits (pair id tag)) (placed k (pair id tag) t) t
   unfolding placed
   placed_nowhere h = rw (set_out (places 32 t) k (place_with (pair id tag)) (rw (places_length 32 t) h), table_places 32 t l) (go (fits (pair id tag)))
     where
@@ -34,13 +41,11 @@ module _ (t : List ℕ) (l : length t ≡ 6208) (k : ℕ) (id tag : List ℕ) wh
   unfolding fits
   placed_long_tag h = rw (lt-leb (length tag) 64 h, and-false (leb (length id) 128))
 
-  pub placed_there : k ≤ 31 → length id ≤ 128 → length tag ≤ 64 → {x : List ℕ} → x ≡ place_with (pair id tag) → {at : ℕ} → at ≡ k * 194
-      → {n : ℕ} {t' : List ℕ} → Wrote t at x n t' → t' ≡ cond (fits (pair id tag)) (placed k (pair id tag) t) t
+  pub placed_there : k < 32 → length id ≤ 128 → length tag ≤ 64 → {x y : List ℕ} → x ≡ place_with (pair id tag) → y ≡ x
+      → put_mid (k * 194) (k * 194 + 194 - k * 194) t y ≡ cond (fits (pair id tag)) (placed k (pair id tag) t) t
   unfolding fits
-  placed_there hk hi hg {x} ex {at} ea {n} {t'} o =
-      let s : length x ≡ 194 = ap length ex ∙ place_length (pair id tag) hi hg in
-      let r = (wrote_room o (omega arith)).1 in
-      rw (le-leb (length id) 128 hi, le-leb (length tag) 64 hg, placed_bytes (pair id tag) t l k (omega arith)) (r ∙ rw (s, ex, ea))
+  placed_there hk hi hg {x} {y} ex ey =
+      rw (le-leb (length id) 128 hi, le-leb (length tag) 64 hg, placed_bytes (pair id tag) t l k hk) (written t k y ∙ rw (ey, ex))
 
 -- ---- the place
 
@@ -67,14 +72,13 @@ module _ (id tag : List ℕ) (hi : length id ≤ 128) (hg : length tag ≤ 64) w
       (ap (λ (x : List ℕ). length id ∷ x) (sym (append_assoc id (replicate (128 - length id) 0) (replicate 65 0))))
 
   -- and with the tag
-  pub place_made : {a : ℕ} → a ≡ length id % 256 → {n : ℕ} {e : List ℕ} → Wrote (set (replicate 194 0) 0 a) 1 id n e
-      → {b : ℕ} → b ≡ length tag % 256 → {m : ℕ} {g : List ℕ} → Wrote (set e 129 b) 130 tag m g → g ≡ place_with (pair id tag)
+  pub place_made : {n : ℕ} {e : List ℕ} → Wrote (length id ∷ replicate 193 0) 1 id n e
+      → {m : ℕ} {g : List ℕ} → Wrote (set e 129 (length tag)) 130 tag m g → g ≡ place_with (pair id tag)
   unfolding place_with
-  place_made {a} ea {n} {e} o {b} eb {m} {g} u =
-      let za : a ≡ length id = omega arith in
-      let zb : b ≡ length tag = omega arith in
-      let h : e ≡ front ++ replicate 65 0 = half {d = set (replicate 194 0) 0 a} (rw za) o in
-      let s : set e 129 b ≡ front ++ (length tag ∷ replicate 64 0) = rw (h, zb) (set_at front 0 (replicate 64 0) (length tag) 129 front_long) in
+  place_made {n} {e} o {m} {g} u =
+      let b : ℕ = length tag in
+      let h : e ≡ front ++ replicate 65 0 = half {d = length id ∷ replicate 193 0} refl o in
+      let s : set e 129 b ≡ front ++ (length tag ∷ replicate 64 0) = rw h (set_at front 0 (replicate 64 0) (length tag) 129 front_long) in
       let k : List ℕ = front ++ (length tag ∷ []) in
       let kl : length k ≡ 130 = length-append front (length tag ∷ []) ∙ omega (arith, front_long) in
       let v : set e 129 b ≡ k ++ replicate 64 0 = s ∙ sym (append_snoc front (length tag) (replicate 64 0)) in

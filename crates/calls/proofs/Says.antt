@@ -1,70 +1,25 @@
--- What a place says, by its bytes; a well-formed pair is held where a place says it.
+-- A well-formed pair is held where a place says it.
 use mathlib.Core.Path.{◌≡◌, refl, sym, ap, ◌∙◌}
-use mathlib.Core.Bool.{Bool, true, false, not, cond, ◌&&◌, ◌||◌, and-false}
-use mathlib.Core.List.{List, [], ◌∷◌}
+use mathlib.Core.Bool.{Bool, true, false, cond, ◌&&◌, ◌||◌, and-false}
+use mathlib.Core.List.{List}
 use mathlib.Core.Option.{Option, none, some}
-use Prim.Native.Nat.{ℕ, zero, suc, ◌+◌, ◌*◌, ◌-◌, ◌≤◌, ◌<◌}
+use Prim.Native.Nat.{ℕ, zero, suc, ◌≤◌, ◌<◌}
 use native.Mathlib.Omega.{arith}
 use lib.Dec.{eqb, leb, ltb}
 use lib.ListN.{length, take, drop, get_or, length-take, length-drop}
-use lib.Seq.{take-take, drop-drop, get_or-take, get_or-drop}
-use borrow.Author.Tests.{eqb-true, eq-eqb, ne_eqb, le-leb, leb-true, lt-ltb, le-ltb, ltb-true, ltb-false, not-true, not-false}
+use lib.Seq.{get_or-take, get_or-drop}
+use borrow.Author.Tests.{eqb-true, eq-eqb, le-leb, leb-true, lt-ltb, le-ltb, ltb-true, ltb-false}
+use Rattle.std.proofs.Common.{Option as Maybe, Some, None, position, unwrap_or, is_some, IfSome}
 use Rattle.octets.specs.Scans.{same}
 use Rattle.sip.specs.Values.{is_call_id}
-use Rattle.sip.specs.Calls.{Pair, is_pair, same_pair, is_in, places, stored, pair_at, with_pair, pairs_in, is_held, first_where, is_that, holds}
+use Rattle.sip.specs.Calls.{Pair, is_pair, same_pair, is_in, places, stored, pair_at, with_pair, pairs_in, is_held, first_where, is_that, holds, ending, removed}
 use Rattle.sip.proofs.Tests.{never, and_left, and_right, range_low}
 use Rattle.sip.proofs.Texts.{same_eq}
 use Rattle.sip.proofs.Calls.Pairs.{pair_is, pair_self, held_in}
 use Rattle.sip.proofs.Calls.Places.{Sized, none_left, one_more, places_sized, places_length, formed_id, id_long, tag_short}
-use Rattle.sip.proofs.Calls.Tables.{held_formed}
+use Rattle.sip.proofs.Calls.Tables.{held_formed, removed_none}
 use Rattle.calls.specs.Places.{pair, says, starts_with, holder}
-use Rattle.calls.proofs.Firsts.{byte_at, first_at, from_start, said_later, from_jump}
-
-take_part : (m n k : ℕ) (u : List ℕ) → m + n ≤ k → take n (drop m (take k u)) ≡ take n (drop m u)
-take_part zero n k u h = take-take n k u (omega arith)
-take_part (suc m) n zero u h = absurd (omega arith)
-take_part (suc m) n (suc k) [] h = refl
-take_part (suc m) n (suc k) (b ∷ u) h = take_part m n k u (omega arith)
-
--- ---- the texts of a place
-
-module _ (t : List ℕ) (at : ℕ) where
-  abbrev place : List ℕ
-  place = take 194 (drop at t)
-
-  -- a part of a place is one of the table
-  pub part_at : (m n : ℕ) → m + n ≤ 194 → take n (drop m place) ≡ take n (drop (at + m) t)
-  part_at m n h = take_part m n 194 (drop at t) h ∙ rw (drop-drop m at t)
-
-  pub second_at : {second : ℕ} → second ≡ at + 129 → get_or place 129 0 ≡ get_or t second 0
-  second_at e = byte_at t at 129 (omega arith) ∙ rw e
-
-  module _ (id tag : List ℕ) (hi : length id ≤ 128) (hg : length tag ≤ 64) {long : ℕ} (el : long ≡ get_or t at 0) where
-    pub id_length_differs : (long ≡ length id → ⊥) → false ≡ says (pair id tag) place
-    unfolding says
-    id_length_differs n = rw (first_at t at, ← el, ne_eqb long (length id) n)
-
-    module _ {second : ℕ} (es : second ≡ at + 129) {short : ℕ} (et : short ≡ get_or t second 0) where
-      pub tag_length_differs : (short ≡ length tag → ⊥) → false ≡ says (pair id tag) place
-      unfolding says
-      tag_length_differs n = rw (second_at es, ← et, ne_eqb short (length tag) n) (sym (and-false (eqb (get_or place 0 0) (length id))))
-
-      module _ (li : long ≡ length id) (lg : short ≡ length tag) {first : ℕ} (ef : first ≡ at + 1) {x : List ℕ} (ex : x ≡ take (length id) (drop first t)) where
-        says_so : says (pair id tag) place ≡ (same id x && same tag (take (length tag) (drop (at + 130) t)))
-        unfolding says same_pair stored
-        says_so =
-            let k : get_or place 0 0 ≡ length id = first_at t at ∙ sym el ∙ li in
-            let j : get_or place 129 0 ≡ length tag = second_at es ∙ sym et ∙ lg in
-            let i : take (length id) (drop 1 place) ≡ x = part_at 1 (length id) (omega arith) ∙ sym (ex ∙ rw ef) in
-            rw (j, k, i, part_at 130 (length tag) (omega arith), eq-eqb (length id) (length id) refl, eq-eqb (length tag) (length tag) refl)
-
-        module _ {b : Bool} (e : b ≡ same id x) where
-          pub id_differs : not b ≡ true → false ≡ says (pair id tag) place
-          id_differs n = let z : same id x ≡ false = sym e ∙ not-true b n in sym (says_so ∙ rw z)
-
-          pub tag_decides : not b ≡ false → {third : ℕ} → third ≡ at + 130 → {y : List ℕ} → y ≡ take (length tag) (drop third t)
-              → {r : Bool} → r ≡ same tag y → r ≡ says (pair id tag) place
-          tag_decides n eh ey er = let z : same id x ≡ true = sym e ∙ not-false b n in er ∙ sym (says_so ∙ rw (z, ey, eh))
+use Rattle.calls.proofs.Firsts.{found_first, found_within, unfound, first_same}
 
 -- ---- a place that says a well-formed pair holds it
 
@@ -135,76 +90,6 @@ module _ (p : Pair) (w : is_pair p ≡ true) where
   held_says : (t : List ℕ) → length t ≡ 6208 → is_held p t ≡ ltb (first_where (says p) (places 32 t)) 32
   held_says t l = held_in p t ∙ in_says (places_sized 32 t l) ∙ rw (places_length 32 t)
 
--- ---- the first place that holds a pair
-
-unheld : (p : Pair) (t : List ℕ) → (is_pair p ≡ true → ⊥) → is_held p t ≡ false
-unheld p t n = go (is_held p t) refl
-  where
-    go : (b : Bool) → is_held p t ≡ b → b ≡ false
-    go true e = absurd (n (held_formed p t e))
-    go false e = refl
-
-pub id_some : (p : Pair) → is_pair p ≡ true → 1 ≤ length p.call_id
-unfolding is_call_id
-id_some p w = range_low 1 128 (length p.call_id) (and_left _ _ (formed_id p w))
-
-module _ (id tag t : List ℕ) where
-  none_holds : (is_pair (pair id tag) ≡ true → ⊥) → 32 ≡ holder (pair id tag) t
-  unfolding holder
-  none_holds n = rw (unheld (pair id tag) t n)
-
-  pub no_id_held : length id < 1 → 32 ≡ holder (pair id tag) t
-  no_id_held h = none_holds (λ w. omega (arith, id_some (pair id tag) w))
-
-  pub long_id_held : 128 < length id → 32 ≡ holder (pair id tag) t
-  long_id_held h = none_holds (λ w. omega (arith, id_long (pair id tag) w))
-
-  pub long_tag_held : 64 < length tag → 32 ≡ holder (pair id tag) t
-  long_tag_held h = none_holds (λ w. omega (arith, tag_short (pair id tag) w))
-
-  module _ (l : length t ≡ 6208) {k : ℕ} (e : k ≡ 0 + first_where (says (pair id tag)) (places (32 - 0) (drop (0 * 194) t))) where
-    first_says : k ≡ first_where (says (pair id tag)) (places 32 t)
-    first_says = e ∙ sym (from_start (says (pair id tag)) t refl)
-
-    pub unsaid_held : 31 < k → 32 ≡ holder (pair id tag) t
-    unfolding holder
-    unsaid_held h = go (is_pair (pair id tag)) refl
-      where
-        go : (b : Bool) → is_pair (pair id tag) ≡ b → 32 ≡ cond (is_held (pair id tag) t) (first_where (says (pair id tag)) (places 32 t)) 32
-        go true w = rw (held_says (pair id tag) w t l, ← first_says, le-ltb k 32 (omega arith))
-        go false w = none_holds (λ y. never (cc))
-
-    module _ {b : Bool} (f : b ≡ is_pair (pair id tag)) where
-      pub unformed_held : not b ≡ true → 32 ≡ holder (pair id tag) t
-      unformed_held n = none_holds (λ y. let z : is_pair (pair id tag) ≡ false = sym f ∙ not-true b n in never (cc))
-
-      pub formed_held : not b ≡ false → k ≤ 31 → k ≡ holder (pair id tag) t
-      unfolding holder
-      formed_held n h = rw (held_says (pair id tag) (sym f ∙ not-false b n) t l, ← first_says, lt-ltb k 32 (omega arith))
-
-  -- ---- what is done by it
-
-  module _ (l : length t ≡ 6208) {k : ℕ} (e : k ≡ holder (pair id tag) t) where
-    by_held : (P : Bool → ℕ → Type 0) → P false 32 → (is_pair (pair id tag) ≡ true → (n : ℕ) → n ≡ first_where (says (pair id tag)) (places 32 t) → n < 32 → P true n) → P (is_held (pair id tag) t) k
-    unfolding holder
-    by_held P a b = go (is_held (pair id tag) t) refl e
-      where
-        go : (h : Bool) → is_held (pair id tag) t ≡ h → k ≡ cond h (first_where (says (pair id tag)) (places 32 t)) 32 → P h k
-        go true x y =
-            let w = held_formed (pair id tag) t x in
-            let z : ltb (first_where (says (pair id tag)) (places 32 t)) 32 ≡ true = sym (held_says (pair id tag) w t l) ∙ x in
-            b w k y (omega (arith, ltb-true (first_where (says (pair id tag)) (places 32 t)) 32 z))
-        go false x y = rw y a
-
-    pub holder_held : ltb k 32 ≡ is_held (pair id tag) t
-    holder_held = by_held (λ h n. ltb n 32 ≡ h) refl (λ w n f g. lt-ltb n 32 g)
-
-    pub holder_formed : k < 32 → is_pair (pair id tag) ≡ true
-    holder_formed = by_held (λ h n. n < 32 → is_pair (pair id tag) ≡ true) (λ g. absurd (omega arith)) (λ w n f g d. w)
-
-    pub holder_first : k < 32 → k ≡ first_where (says (pair id tag)) (places 32 t)
-    holder_first = by_held (λ h n. n < 32 → n ≡ first_where (says (pair id tag)) (places 32 t)) (λ g. absurd (omega arith)) (λ w n f g d. f)
-
 -- ---- looking for it: a place that says it starts with its length and its first byte
 
 module _ (id tag : List ℕ) (h : 1 ≤ length id) where
@@ -225,14 +110,102 @@ module _ (id tag : List ℕ) (h : 1 ≤ length id) where
           let d : eqb (get_or c 1 0) (get_or id 0 0) ≡ true = eq-eqb (get_or c 1 0) (get_or id 0 0) (sym g) in
           never (cc)
 
-  module _ (t : List ℕ) (n : ℕ) where
-    pub next_jump : (k : ℕ) → n ≡ k + first_where (says (pair id tag)) (places (32 - k) (drop (k * 194) t)) → {b : ℕ} → b ≡ get_or id 0 0 → {r : ℕ}
-        → r ≡ k + first_where (starts_with (length id) b) (places (32 - k) (drop (k * 194) t))
-        → n ≡ r + first_where (says (pair id tag)) (places (32 - r) (drop (r * 194) t))
-    next_jump k e eb f = from_jump (says (pair id tag)) t n k e (starts_with (length id) (get_or id 0 0)) says_starts (f ∙ rw eb)
+-- ---- the first place that holds a pair
 
-    pub next_again : (k : ℕ) → n ≡ k + first_where (says (pair id tag)) (places (32 - k) (drop (k * 194) t)) → k < 32 → {at : ℕ} → at ≡ k * 194
-        → {a : Bool} → a ≡ says (pair id tag) (take 194 (drop at t)) → a ≡ false → {b : ℕ} → b ≡ get_or id 0 0 → {r : ℕ}
-        → r ≡ k + 1 + first_where (starts_with (length id) b) (places (32 - (k + 1)) (drop ((k + 1) * 194) t))
-        → n ≡ r + first_where (says (pair id tag)) (places (32 - r) (drop (r * 194) t))
-    next_again k e h ea eq y eb f = next_jump (k + 1) (said_later (says (pair id tag)) t n k e h ea eq y refl) eb f
+unheld : (p : Pair) (t : List ℕ) → (is_pair p ≡ true → ⊥) → is_held p t ≡ false
+unheld p t n = go (is_held p t) refl
+  where
+    go : (b : Bool) → is_held p t ≡ b → b ≡ false
+    go true e = absurd (n (held_formed p t e))
+    go false e = refl
+
+id_some : (p : Pair) → is_pair p ≡ true → 1 ≤ length p.call_id
+unfolding is_call_id
+id_some p w = range_low 1 128 (length p.call_id) (and_left _ _ (formed_id p w))
+
+module _ (id tag t : List ℕ) where
+  none_holds : (is_pair (pair id tag) ≡ true → ⊥) → 32 ≡ holder (pair id tag) t
+  unfolding holder
+  none_holds n = rw (unheld (pair id tag) t n)
+
+  pub no_id_held : {e : Bool} → e ≡ eqb (length id) 0 → e ≡ true → 32 ≡ holder (pair id tag) t
+  no_id_held f y = none_holds (λ w. omega (arith, id_some (pair id tag) w, eqb-true (length id) 0 (sym f ∙ y)))
+
+  pub unformed_held : {b : Bool} → b ≡ is_pair (pair id tag) → b ≡ false → 32 ≡ holder (pair id tag) t
+  unformed_held f n = none_holds (λ y. never (cc))
+
+  module _ {e : Bool} (ee : e ≡ eqb (length id) 0) (ne : e ≡ false) {r : Maybe ℕ}
+      (er : r ≡ position (λ c. starts_with (length id) (get_or id 0 0) c && says (pair id tag) c) (places 32 t)) where
+    abbrev both : List ℕ → Bool
+    both c = starts_with (length id) (get_or id 0 0) c && says (pair id tag) c
+
+    first_is : first_where both (places 32 t) ≡ first_where (says (pair id tag)) (places 32 t)
+    first_is = first_same both (says (pair id tag)) (λ c. go c (starts_with (length id) (get_or id 0 0) c) refl) (places 32 t)
+      where
+        some_id : 1 ≤ length id
+        some_id = at_least (length id) (sym ee ∙ ne)
+          where
+            at_least : (n : ℕ) → eqb n 0 ≡ false → 1 ≤ n
+            at_least zero x = never (cc)
+            at_least (suc n) x = omega arith
+
+        go : (c : List ℕ) (b : Bool) → starts_with (length id) (get_or id 0 0) c ≡ b → (b && says (pair id tag) c) ≡ says (pair id tag) c
+        go c true x = refl
+        go c false x = sym (says_starts id tag some_id c x)
+
+    module _ (l : length t ≡ 6208) where
+      pub unsaid_held : r ≡ None → 32 ≡ holder (pair id tag) t
+      unfolding holder
+      unsaid_held f = go (is_pair (pair id tag)) refl
+        where
+          go : (b : Bool) → is_pair (pair id tag) ≡ b → 32 ≡ cond (is_held (pair id tag) t) (first_where (says (pair id tag)) (places 32 t)) 32
+          go true w = rw (held_says (pair id tag) w t l, ← first_is, le-ltb (first_where both (places 32 t)) 32 (unfound both t er f))
+          go false w = none_holds (λ y. never (cc))
+
+      pub formed_held : {k : ℕ} → r ≡ Some k → {b : Bool} → b ≡ is_pair (pair id tag) → b ≡ true → k ≡ holder (pair id tag) t
+      unfolding holder
+      formed_held {k} f {b} g y =
+          let z : k ≡ first_where (says (pair id tag)) (places 32 t) = found_first both t er f ∙ first_is in
+          let w : is_pair (pair id tag) ≡ true = sym g ∙ y in
+          let x = lt-ltb k 32 (found_within both t er f) in
+          rw (held_says (pair id tag) w t l, ← z, x)
+
+-- ---- what is done by it
+
+module _ (id tag t : List ℕ) (l : length t ≡ 6208) where
+  by_held : {k : ℕ} → k ≡ holder (pair id tag) t → (P : Bool → ℕ → Type 0) → P false 32
+      → (is_pair (pair id tag) ≡ true → (n : ℕ) → n ≡ first_where (says (pair id tag)) (places 32 t) → n < 32 → P true n) → P (is_held (pair id tag) t) k
+  unfolding holder
+  by_held {k} e P a b = go (is_held (pair id tag) t) refl e
+    where
+      go : (h : Bool) → is_held (pair id tag) t ≡ h → k ≡ cond h (first_where (says (pair id tag)) (places 32 t)) 32 → P h k
+      go true x y =
+          let w = held_formed (pair id tag) t x in
+          let z : ltb (first_where (says (pair id tag)) (places 32 t)) 32 ≡ true = sym (held_says (pair id tag) w t l) ∙ x in
+          b w k y (omega (arith, ltb-true (first_where (says (pair id tag)) (places 32 t)) 32 z))
+      go false x y = rw y a
+
+  pub holder_held : (o : Maybe ℕ) → unwrap_or o 32 ≡ holder (pair id tag) t → IfSome o (λ k. k < 32) → is_some o ≡ is_held (pair id tag) t
+  holder_held None e i = by_held e (λ h n. n ≡ 32 → false ≡ h) (λ z. refl) (λ w n f g z. absurd (omega (arith, g, z))) refl
+  holder_held (Some k) e i = by_held e (λ h n. n < 32 → true ≡ h) (λ z. absurd (omega arith)) (λ w n f g z. refl) i
+
+  pub holder_formed : {k : ℕ} → k ≡ holder (pair id tag) t → k < 32 → is_pair (pair id tag) ≡ true
+  holder_formed e = by_held e (λ h n. n < 32 → is_pair (pair id tag) ≡ true) (λ g. absurd (omega arith)) (λ w n f g d. w)
+
+  pub holder_first : {k : ℕ} → k ≡ holder (pair id tag) t → k < 32 → k ≡ first_where (says (pair id tag)) (places 32 t)
+  holder_first e = by_held e (λ h n. n < 32 → n ≡ first_where (says (pair id tag)) (places 32 t)) (λ g. absurd (omega arith)) (λ w n f g d. f)
+
+  held_by : {k : ℕ} → k ≡ holder (pair id tag) t → ltb k 32 ≡ is_held (pair id tag) t
+  held_by e = by_held e (λ h n. ltb n 32 ≡ h) refl (λ w n f g. lt-ltb n 32 g)
+
+  pub end_known : {k : ℕ} → k ≡ holder (pair id tag) t → k < 32 → 0 ≡ ending (pair id tag) t
+  unfolding ending
+  end_known {k} e h = rw (← held_by e, lt-ltb k 32 h)
+
+  module _ (e : 32 ≡ holder (pair id tag) t) where
+    pub end_unknown : 19 ≡ ending (pair id tag) t
+    unfolding ending
+    end_unknown = rw (← held_by e)
+
+    pub not_removed : t ≡ removed (pair id tag) t
+    not_removed = sym (removed_none (pair id tag) t (sym (held_by e)))

@@ -1,22 +1,20 @@
 -- The first place that is free or holds the pair of an earlier one: the places before k are neither.
 use mathlib.Core.Path.{◌≡◌, refl, sym, ap, ◌∙◌}
-use mathlib.Core.Bool.{Bool, true, false, not, and-false}
+use mathlib.Core.Bool.{Bool, true, false}
 use mathlib.Core.List.{List, [], ◌∷◌, ◌++◌}
 use mathlib.Core.Option.{Option, none, some}
 use Prim.Native.Nat.{ℕ, zero, suc, ◌+◌, ◌*◌, ◌-◌, ◌≤◌, ◌<◌}
 use native.Mathlib.Omega.{arith}
-use lib.Dec.{leb}
-use lib.ListN.{length, take, drop, get_or, length-take, length-drop}
+use lib.ListN.{length, take, drop, get_or}
 use lib.Seq.{drop-drop}
-use borrow.Author.Tests.{le-leb, lt-leb, lt-ltb, le-ltb}
-use Rattle.sip.specs.Values.{is_call_id}
-use Rattle.sip.specs.Calls.{Pair, is_pair, places, stored, pair_at, with_pair, pairs_in, first_where, starts_with0, first_spare, new_place}
+use borrow.Author.Tests.{lt-ltb, le-ltb}
+use Rattle.std.proofs.Common.{Option as Maybe, Some, None, position}
+use Rattle.sip.specs.Calls.{Pair, places, pair_at, with_pair, pairs_in, first_where, starts_with0, first_spare, new_place}
 use Rattle.sip.proofs.Tests.{never}
 use Rattle.sip.proofs.Calls.Places.{spare_free, spare_again, spare_next}
-use Rattle.calls.specs.Places.{pair, is_taken, is_spare}
+use Rattle.calls.specs.Places.{is_taken, is_spare}
 use Rattle.calls.specs.Parts.{firsts_of}
-use Rattle.calls.proofs.Firsts.{place_long, places_end, places_step, first_at}
-use Rattle.calls.proofs.Says.{part_at, second_at}
+use Rattle.calls.proofs.Firsts.{places_end, places_step, found_first, found_within, unfound}
 use Rattle.calls.proofs.Taken.{again_spare, new_spare, unformed_spare}
 
 -- ---- one place more
@@ -84,58 +82,23 @@ module _ (t : List ℕ) where
         pub passed_again : v < k → k ≡ first_spare [] (places 32 t)
         passed_again g = stops (again_spare t l k h ed ev g)
 
-        pub passed_next : k ≤ v → {b : Bool} → b ≡ is_taken (take 194 (drop (k * 194) t)) → not b ≡ false → {j : ℕ} → j ≡ k + 1 → Passed t j
+        pub passed_next : k ≤ v → {b : Bool} → b ≡ is_taken (take 194 (drop (k * 194) t)) → b ≡ true → {j : ℕ} → j ≡ k + 1 → Passed t j
         unfolding Passed
         passed_next g eb n {j} q =
             let z : j ≡ suc k = omega arith in
             let s = spare_no k t (places (32 - j) (drop (j * 194) t)) (new_spare t l k h ed ev g eb n) in
             e ∙ rw (places_step 32 t k h q, s, ← z) (omega arith)
 
-      pub passed_free : {b : Bool} → b ≡ is_taken (take 194 (drop (k * 194) t)) → not b ≡ true → k ≡ first_spare [] (places 32 t)
+      pub passed_free : {b : Bool} → b ≡ is_taken (take 194 (drop (k * 194) t)) → b ≡ false → k ≡ first_spare [] (places 32 t)
       passed_free eb n = stops (unformed_spare t l k h eb n)
 
 -- ---- where a new pair goes
 
-module _ (t : List ℕ) {k : ℕ} (e : k ≡ first_where starts_with0 (places 32 t)) where
-  pub new_empty : k < 32 → k ≡ new_place t
+module _ (t : List ℕ) {r : Maybe ℕ} (e : r ≡ position starts_with0 (places 32 t)) where
+  pub new_empty : {k : ℕ} → r ≡ Some k → k ≡ new_place t
   unfolding new_place
-  new_empty h = rw (← e, lt-ltb k 32 h)
+  new_empty {k} f = rw (← found_first starts_with0 t e f, lt-ltb k 32 (found_within starts_with0 t e f))
 
-  pub new_spare_place : 32 ≤ k → {s : ℕ} → s ≡ first_spare [] (places 32 t) → s ≡ new_place t
+  pub new_spare_place : r ≡ None → {s : ℕ} → s ≡ first_spare [] (places 32 t) → s ≡ new_place t
   unfolding new_place
-  new_spare_place h f = rw (← e, le-ltb k 32 h) f
-
--- ---- a place that holds a pair, by its bytes
-
-unformed_free : (c : List ℕ) → is_pair (stored c) ≡ false → false ≡ is_taken c
-unfolding is_taken
-unformed_free c e = rw e (sym (and-false (leb (get_or c 129 0) 64)))
-
-module _ (t : List ℕ) (l : length t ≡ 6208) (k : ℕ) (h : k < 32) {at : ℕ} (ea : at ≡ k * 194) {long : ℕ} (el : long ≡ get_or t at 0) {second : ℕ}
-    (es : second ≡ at + 129) {short : ℕ} (et : short ≡ get_or t second 0) where
-  abbrev c : List ℕ
-  c = take 194 (drop (k * 194) t)
-
-  says_long : get_or c 0 0 ≡ long
-  says_long = first_at t (k * 194) ∙ sym (el ∙ rw ea)
-
-  says_short : get_or c 129 0 ≡ short
-  says_short = second_at t (k * 194) (es ∙ rw ea) ∙ sym et
-
-  pub taken_long : 128 < long → false ≡ is_taken c
-  unfolding is_pair is_call_id stored
-  taken_long g =
-      let n : 128 < length (take (get_or c 0 0) (drop 1 c)) = omega (arith, says_long, length-take (get_or c 0 0) (drop 1 c), length-drop 1 c, place_long t l k h) in
-      unformed_free c (rw (lt-leb (length (take (get_or c 0 0) (drop 1 c))) 128 n, and-false (leb 1 (length (take (get_or c 0 0) (drop 1 c))))))
-
-  pub taken_short : 64 < short → false ≡ is_taken c
-  unfolding is_taken
-  taken_short g = rw (says_short, lt-leb short 64 g)
-
-  pub taken_formed : long ≤ 128 → short ≤ 64 → {first : ℕ} → first ≡ at + 1 → {third : ℕ} → third ≡ at + 130 → {id tag : List ℕ}
-      → id ≡ take long (drop first t) → tag ≡ take short (drop third t) → {b : Bool} → b ≡ is_pair (pair id tag) → b ≡ is_taken c
-  unfolding is_taken stored
-  taken_formed gl gs ef eh {id} {tag} ei eg eb =
-      let x : take (get_or c 0 0) (drop 1 c) ≡ id = rw (says_long, part_at t (k * 194) 1 long (omega arith)) (sym (ei ∙ rw (ef, ea))) in
-      let y : take (get_or c 129 0) (drop 130 c) ≡ tag = rw (says_short, part_at t (k * 194) 130 short (omega arith)) (sym (eg ∙ rw (eh, ea))) in
-      eb ∙ rw (x, y, says_short, le-leb short 64 gs)
+  new_spare_place f g = rw (le-ltb (first_where starts_with0 (places 32 t)) 32 (unfound starts_with0 t e f)) g

@@ -1,6 +1,6 @@
 -- Places hold the same pair where they agree in all three parts.
 use mathlib.Core.Path.{◌≡◌, refl, sym, ap, ◌∙◌}
-use mathlib.Core.Bool.{Bool, true, false, not, cond, ◌&&◌, ◌||◌, or-true}
+use mathlib.Core.Bool.{Bool, true, false, cond, ◌&&◌, ◌||◌, or-true}
 use mathlib.Core.List.{List, [], ◌∷◌}
 use mathlib.Core.Option.{Option, none, some}
 use Prim.Native.Nat.{ℕ, zero, suc, ◌+◌, ◌*◌, ◌-◌, ◌≤◌, ◌<◌, min}
@@ -8,7 +8,7 @@ use native.Mathlib.Omega.{arith}
 use lib.Dec.{eqb, leb, ltb}
 use lib.ListN.{length, take, drop, get_or, take-append-drop}
 use lib.Seq.{drop-drop, drop-cons, take-nil}
-use borrow.Author.Tests.{eqb-true, lt-ltb, le-ltb, ltb-true, ltb-false, not-true, not-false}
+use borrow.Author.Tests.{eqb-true, lt-ltb, le-ltb, ltb-true, ltb-false}
 use Rattle.sip.specs.Calls.{Pair, is_pair, same_pair, is_in, places, stored, pair_at, with_pair, pairs_in}
 use Rattle.sip.proofs.Tests.{never, and_left, and_right}
 use Rattle.sip.proofs.Texts.{same_refl}
@@ -234,8 +234,8 @@ module _ (t : List ℕ) (l : length t ≡ 6208) (k : ℕ) (hk : k < 32) where
         go false e = free_spare e
 
     module _ (h : k ≤ v) {b : Bool} (eb : b ≡ is_taken own) where
-      pub new_spare : not b ≡ false → is_spare before own ≡ false
-      new_spare n = taken_spare (sym eb ∙ not-false b n) ∙ rw (← first_is) (le-ltb v k h)
+      pub new_spare : b ≡ true → is_spare before own ≡ false
+      new_spare n = taken_spare (sym eb ∙ n) ∙ rw (← first_is) (le-ltb v k h)
 
-  pub unformed_spare : {b : Bool} → b ≡ is_taken own → not b ≡ true → is_spare before own ≡ true
-  unformed_spare {b} eb n = free_spare (sym eb ∙ not-true b n)
+  pub unformed_spare : {b : Bool} → b ≡ is_taken own → b ≡ false → is_spare before own ≡ true
+  unformed_spare {b} eb n = free_spare (sym eb ∙ n)

@@ -3,6 +3,14 @@
 use Rattle.std.specs.Prelude.{Bool, true, cond, ◌&&◌, List, ◌++◌, map, ℕ, zero, suc, ◌+◌, ◌-◌, min, ltb, take, drop, get_or, replicate}
 use Rattle.octets.specs.Scans.{same}
 use Rattle.sip.specs.Calls.{first_where}
+use Rattle.calls.specs.declared.full.Part.{Part}
+use Rattle.calls.specs.declared.full.Part.TheVariants.{CallId, Rest, Tag}
+
+-- the parts in their order
+abbrev pub number_of : Part → ℕ
+number_of CallId = 0
+number_of Rest = 1
+number_of Tag = 2
 
 -- where a part starts in its place
 unfoldable pub start_of : ℕ → ℕ

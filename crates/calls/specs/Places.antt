@@ -1,10 +1,21 @@
 -- What the functions on single places answer.
-use Rattle.std.specs.Prelude.{Bool, true, cond, ◌&&◌, List, ℕ, leb, eqb, length, get_or}
+use Rattle.std.specs.Prelude.{Bool, true, cond, ◌&&◌, List, ℕ, leb, eqb, length, get_or, Result, Ok, Err}
 use Rattle.std.proofs.Math.Option.{none, some}
 use Rattle.sip.specs.Calls.{Pair, is_pair, same_pair, is_in, places, stored, pair_at, is_held, first_where}
+use Rattle.calls.specs.declared.pairs.Pair.{Pair as Texts}
+use Rattle.calls.specs.declared.NotHeld.{NotHeld}
 
 abbrev pub pair : List ℕ → List ℕ → Pair
 pair id tag = record { call_id = id; tag = tag }
+
+-- the pair of these two texts
+abbrev pub said : Texts → Pair
+said p = pair p.call_id.now p.tag.now
+
+-- the number of an explicit end's answer
+abbrev pub answer_of : Result (Unit {0}) NotHeld → ℕ
+answer_of (Ok u) = 0
+answer_of (Err e) = 19
 
 -- a place has room for the texts of the pair
 unfoldable pub fits : Pair → Bool

@@ -1,226 +1,154 @@
 // A table without a place that starts with 0: the first place that is free in another way or holds the pair of an earlier place. Places are
-// compared in three parts, and with those alone that agree with them in the parts before, so that no table takes long.
-ghost use Rattle.std.specs.Prelude.{◌≡◌, not, ◌&&◌, [], suc, ◌+◌, ◌*◌, ◌≤◌, ◌<◌, min, eqb, length, take, drop};
-ghost use Rattle.std.specs.Int.Bits.{bit_and};
-ghost use Rattle.octets.specs.Classes.{class_table};
+// compared in three parts, and with those alone that agree with them in the parts before, so that no table takes long: each place whole with
+// all those before it would be 496 pairs of places, compared to the end where they differ late.
+ghost use Rattle.std.specs.Prelude.{◌≡◌, [], suc, ◌*◌, ◌-◌, ◌≤◌, ◌<◌, take, drop, unwrap_or, IfSome};
 ghost use Rattle.octets.specs.Scans.{same};
 ghost use Rattle.sip.specs.Calls.{places, first_spare};
 ghost use Rattle.calls.specs.Places.{is_taken};
-ghost use Rattle.calls.specs.Parts.{start_of, size_of, first_like, firsts_of, keeping};
+ghost use Rattle.calls.specs.Parts.{number_of, start_of, size_of, first_like, firsts_of, keeping};
 
-// Ones before zeros. The 65 bytes of it from 65 - n on keep the first n bytes of a part; whatever stands behind them is not compared.
-fn ones_first() -> [u8; 130]
-    ensures { result ≡ keeping }
-{
-    let mut mask = [0u8; 130];
-    let mut i = 0;
-    while i < 65 {
-        mask[i] = 255;
-        i += 1;
+use crate::pairs::{Pair, Place};
+use crate::place_at;
+
+// The parts of a place: a length with the 64 bytes behind it, twice, and between them the rest of a long Call-ID.
+#[derive(Clone, Copy)]
+enum Part {
+    CallId,
+    Rest,
+    Tag,
+}
+
+impl Part {
+    // Where it starts in a place.
+    #[tactic(auto, unfolding(crate::specs::Parts::start_of))]
+    fn start(self) -> usize
+        ensures { (result ≡ start_of (number_of self)) × (result ≤ 129) }
+    {
+        match self {
+            Part::CallId => 0,
+            Part::Rest => 65,
+            Part::Tag => 129,
+        }
     }
-    mask
+
+    // How many of its bytes are to be compared: the length and the text that it counts. The bound is told here and asked for by the three
+    // functions that it goes through: a type would say no more than that.
+    #[tactic(auto, unfolding(crate::specs::Parts::size_of))]
+    fn size(self, place: &Place) -> usize
+        ensures { (result ≡ size_of (number_of self) place.now) × (result ≤ 65) }
+    {
+        let size = usize::from(place[0]);
+        match self {
+            Part::CallId => 1 + size.min(64),
+            Part::Rest => size.saturating_sub(64).min(64),
+            Part::Tag => 1 + usize::from(place[129]).min(64),
+        }
+    }
+
+    // Its bytes, those that count and those behind them.
+    fn bytes(self, place: &Place) -> &[u8; 65]
+        ensures { result.now ≡ take 65 (drop (start_of (number_of self)) place.now) }
+    {
+        place[self.start()..].first_chunk().unwrap()
+    }
 }
 
-fn unlike(x: u8, y: u8, kept: u8) -> bool
-    ensures { (result ≡ not (eqb (bit_and x kept) (bit_and y kept))) × (x < 256) × (y < 256) }
+// Ones before zeros.
+static ONES_FIRST: [[u8; 65]; 2] = [[255; 65], [0; 65]];
+
+// The 65 bytes of them that keep the first n bytes of a part.
+#[tactic(auto, unfolding(crate::specs::Parts::keeping))]
+fn kept(n: usize) -> &'static [u8; 65]
+    requires { n ≤ 65 }
+    ensures { result.now ≡ take 65 (drop (65 - n) keeping) }
 {
-    x & kept != y & kept
+    ONES_FIRST.as_flattened()[65 - n..].first_chunk().unwrap()
 }
 
-// The n bytes from two places on are the same. All 65 are looked at, so that they are compared at once.
-fn alike(mask: &[u8; 130], table: &[u8; 6208], a: usize, b: usize, n: usize) -> bool
-    requires { (mask.now ≡ keeping) × (length table.now ≡ 6208) × (a + 65 ≤ 6208) × (b + 65 ≤ 6208) × (n ≤ 65) }
-    ensures { result ≡ same (take n (drop a table.now)) (take n (drop b table.now)) }
+// The first n bytes of two parts are the same. All 65 are looked at, so that they are compared at once. With `&=` in place of the
+// `if` a table full of the longest pairs took 48,768 instructions in place of 36,616.
+fn alike(a: &[u8; 65], b: &[u8; 65], n: usize) -> bool
+    requires { n ≤ 65 }
+    ensures { result ≡ same (take n a.now) (take n b.now) }
 {
-    let kept = 65 - n;
+    let kept = kept(n);
     let mut found = false;
-    let mut i = 0;
-    while i < 65 {
-        if unlike(table[a + i], table[b + i], mask[kept + i]) {
+    for i in 0..65 {
+        if a[i] & kept[i] != b[i] & kept[i] {
             found = true;
         }
-        i += 1;
     }
     !found
 }
 
-fn least(a: usize, b: usize) -> usize
-    ensures { result ≡ min a b }
+// The same. One byte is looked at first, the one after the length: most places differ there.
+fn joins(a: &[u8; 65], b: &[u8; 65], n: usize) -> bool
+    requires { (1 ≤ n) × (n ≤ 65) }
+    ensures { result ≡ same (take n a.now) (take n b.now) }
 {
-    if a < b {
-        return a;
-    }
-    b
+    let one = 1.min(n - 1);
+    a[one] == b[one] && alike(a, b, n)
 }
 
-// Where a part starts in its place.
-fn start(part: usize) -> usize
-    ensures { (result ≡ start_of part) × (result ≤ 129) }
+// The first place that agrees with place k in this part too: it has the same first in the parts before. Where no byte is left, all that
+// agreed before still do. By a loop: with `find` over the places' numbers the proof of the clause did not close.
+fn first_alike(table: &[u8; 6208], firsts: &[usize; 32], k: usize, part: Part) -> usize
+    requires { (firsts.now ≡ firsts_of (number_of part) (places 32 table.now)) × (k < 32) }
+    ensures { result ≡ first_like (suc (number_of part)) (places 32 table.now) (take 194 (drop (k * 194) table.now)) }
 {
-    if part < 1 {
-        return 0;
-    }
-    if part < 2 {
-        return 65;
-    }
-    129
-}
-
-// How many bytes of the part are to be compared: the length and the text that it counts.
-fn size(table: &[u8; 6208], at: usize, part: usize) -> usize
-    requires { at + 194 ≤ 6208 }
-    ensures { (result ≡ size_of part (take 194 (drop at table.now))) × (result ≤ 65) }
-{
-    if part < 1 {
-        return 1 + least(crate::wide(table[at]), 64);
-    }
-    if part < 2 {
-        let long = crate::wide(table[at]);
-        if long < 64 {
-            return 0;
-        }
-        return least(long - 64, 64);
-    }
-    let second = at + 129;
-    1 + least(crate::wide(table[second]), 64)
-}
-
-// A place joins another in this part: both have the same first place in the parts before, and the n bytes from a and b on are the same. One
-// byte is looked at first, the one after the length: most places differ there.
-fn joins(
-    mask: &[u8; 130],
-    table: &[u8; 6208],
-    other: usize,
-    first: usize,
-    a: usize,
-    b: usize,
-    n: usize,
-) -> bool
-    requires { (mask.now ≡ keeping) × (length table.now ≡ 6208) × (a + 65 ≤ 6208) × (b + 65 ≤ 6208) × (1 ≤ n) × (n ≤ 65) }
-    ensures { result ≡ (eqb other first && same (take n (drop a table.now)) (take n (drop b table.now))) }
-{
-    if other != first {
-        return false;
-    }
-    let one = least(1, n - 1);
-    if table[a + one] != table[b + one] {
-        return false;
-    }
-    alike(mask, table, a, b, n)
-}
-
-// The first place that agrees with place k in this part too, which has n bytes.
-fn first_joined(
-    mask: &[u8; 130],
-    table: &[u8; 6208],
-    firsts: &[usize; 32],
-    k: usize,
-    part: usize,
-    n: usize,
-) -> usize
-    requires { (mask.now ≡ keeping)
-        × (length table.now ≡ 6208)
-        × (firsts.now ≡ firsts_of part (places 32 table.now))
-        × (k < 32)
-        × (n ≡ size_of part (take 194 (drop (k * 194) table.now)))
-        × (1 ≤ n)
-        × (n ≤ 65) }
-    ensures { result ≡ first_like (suc part) (places 32 table.now) (take 194 (drop (k * 194) table.now)) }
-{
-    let from = start(part);
-    let own = k * 194 + from;
+    let place = place_at(table, k);
     let first = firsts[k];
-    let mut j = first;
-    while j < k {
-        let at = j * 194 + from;
-        if joins(mask, table, firsts[j], first, at, own, n) {
+    let n = part.size(place);
+    if n < 1 {
+        return first;
+    }
+    let own = part.bytes(place);
+    for j in first..k {
+        if firsts[j] == first && joins(part.bytes(place_at(table, j)), own, n) {
             return j;
         }
-        j += 1;
     }
     k
 }
 
-// The same. Where no byte is left, all that agreed before still do.
-fn first_alike(
-    mask: &[u8; 130],
-    table: &[u8; 6208],
-    firsts: &[usize; 32],
-    k: usize,
-    part: usize,
-) -> usize
-    requires { (mask.now ≡ keeping) × (length table.now ≡ 6208) × (firsts.now ≡ firsts_of part (places 32 table.now)) × (k < 32) }
-    ensures { result ≡ first_like (suc part) (places 32 table.now) (take 194 (drop (k * 194) table.now)) }
-{
-    let n = size(table, k * 194, part);
-    if n < 1 {
-        return firsts[k];
-    }
-    first_joined(mask, table, firsts, k, part, n)
-}
-
 // For each place the first that agrees with it in this part too.
-fn refined(mask: &[u8; 130], table: &[u8; 6208], firsts: &[usize; 32], part: usize) -> [usize; 32]
-    requires { (mask.now ≡ keeping) × (length table.now ≡ 6208) × (firsts.now ≡ firsts_of part (places 32 table.now)) }
-    ensures { result ≡ firsts_of (suc part) (places 32 table.now) }
+fn refined(table: &[u8; 6208], firsts: &[usize; 32], part: Part) -> [usize; 32]
+    requires { firsts.now ≡ firsts_of (number_of part) (places 32 table.now) }
+    ensures { result ≡ firsts_of (suc (number_of part)) (places 32 table.now) }
 {
-    let mut next = [0usize; 32];
-    let mut k = 0;
-    while k < 32 {
-        next[k] = first_alike(mask, table, firsts, k, part);
-        k += 1;
+    let mut next = [0; 32];
+    for k in 0..32 {
+        next[k] = first_alike(table, firsts, k, part);
     }
     next
 }
 
-// For each place the first that says the same.
+// For each place the first that says the same: indices are what is found, so that they stay an array of numbers.
 fn firsts(table: &[u8; 6208]) -> [usize; 32]
-    requires { length table.now ≡ 6208 }
     ensures { result ≡ firsts_of 3 (places 32 table.now) }
 {
-    let mask = ones_first();
-    let none = [0usize; 32];
-    let first = refined(&mask, table, &none, 0);
-    let second = refined(&mask, table, &first, 1);
-    refined(&mask, table, &second, 2)
+    let first = refined(table, &[0; 32], Part::CallId);
+    let second = refined(table, &first, Part::Rest);
+    refined(table, &second, Part::Tag)
 }
 
 // The place holds a pair.
-fn is_taken(classes: &[u8; 256], table: &[u8; 6208], k: usize) -> bool
-    requires { (classes.now ≡ class_table) × (length table.now ≡ 6208) × (k < 32) }
-    ensures { result ≡ is_taken (take 194 (drop (k * 194) table.now)) }
+#[tactic(auto, unfolding(crate::specs::Places::is_taken))]
+fn is_taken(place: &Place) -> bool
+    ensures { result ≡ is_taken place.now }
 {
-    let at = k * 194;
-    let second = at + 129;
-    let long = crate::wide(table[at]);
-    let short = crate::wide(table[second]);
-    if 128 < long {
-        return false;
-    }
-    if 64 < short {
-        return false;
-    }
-    let id = octets::part(table, at + 1, long);
-    let tag = octets::part(table, at + 130, short);
-    crate::is_pair(classes, id, tag)
+    place[129] <= 64 && Pair::stored(place).is_formed()
 }
 
-// The first place that is free or holds the pair of an earlier one; 32 where there is none.
-pub(crate) fn first_spare(table: &[u8; 6208]) -> usize
-    requires { length table.now ≡ 6208 }
-    ensures { (result ≡ first_spare [] (places 32 table.now)) × (result ≤ 32) }
+// The first place that is free or holds the pair of an earlier one. By a loop: with `find` the proof of the clause did not close.
+pub(crate) fn first_spare(table: &[u8; 6208]) -> Option<usize>
+    ensures { (unwrap_or result 32 ≡ first_spare [] (places 32 table.now)) × IfSome result (λ k. k < 32) }
 {
-    let classes = octets::class_table();
     let firsts = firsts(table);
-    let mut k = 0;
-    while k < 32 {
-        if firsts[k] < k {
-            return k;
+    for k in 0..32 {
+        if firsts[k] < k || !is_taken(place_at(table, k)) {
+            return Some(k);
         }
-        if !is_taken(&classes, table, k) {
-            return k;
-        }
-        k += 1;
     }
-    k
+    None
 }

@@ -1,84 +1,49 @@
-// Texts in blocks of sixteen bytes. A block is looked at whole, so that its bytes are compared at once. The last block may share bytes with
-// the one before it.
-ghost use Rattle.std.specs.Prelude.{◌≡◌, not, ◌+◌, ◌≤◌, length, take, drop};
-ghost use Rattle.octets.specs.Classes.{class_table, is_visible};
-ghost use Rattle.octets.specs.Scans.{all, same};
+// Texts in blocks of sixteen bytes. A block is looked at whole, so that its bytes are tested at once.
+ghost use Rattle.std.specs.Prelude.{◌≡◌};
+ghost use Rattle.std.specs.List.{list_all};
+ghost use Rattle.octets.specs.Classes.{is_visible};
+ghost use Rattle.octets.specs.Members.{members};
+ghost use Rattle.octets.specs.Scans.{all};
 
-fn is_hidden(b: u8) -> bool
-    ensures { result ≡ not (is_visible b) }
+use octets::Class;
+
+// Every byte of the block is visible.
+fn is_visible_block(block: &[u8; 16]) -> bool
+    ensures { result ≡ all is_visible block.now }
 {
-    if b < 33 {
-        return true;
+    let mut visible = true;
+    for b in block {
+        visible &= b.is_ascii_graphic();
     }
-    126 < b
+    visible
 }
 
-// The sixteen bytes from a place on are visible.
-fn visible_block(s: &[u8], at: usize) -> bool
-    requires { at + 16 ≤ length s.now }
-    ensures { result ≡ all is_visible (take 16 (drop at s.now)) }
+// So is every byte of all these blocks. Without a stop at the first that fails: with `all` a table full of the longest pairs took 37,672
+// instructions in place of 36,616.
+fn are_visible_blocks(blocks: &[[u8; 16]]) -> bool
+    ensures { result ≡ list_all (all is_visible) blocks.now }
 {
-    let mut found = false;
-    let mut j = 0;
-    while j < 16 {
-        if is_hidden(s[at + j]) {
-            found = true;
-        }
-        j += 1;
+    let mut visible = true;
+    for block in blocks {
+        visible &= is_visible_block(block);
     }
-    !found
+    visible
 }
 
-// Every byte is visible. A short text is left to the class table.
-pub(crate) fn is_visible(classes: &[u8; 256], s: &[u8]) -> bool
-    requires { classes.now ≡ class_table }
+// Every byte is visible. The last block may share bytes with the one before it. A short text is left to the class table.
+pub(crate) fn is_visible(s: &[u8]) -> bool
     ensures { result ≡ all is_visible s.now }
 {
-    if s.len() < 16 {
-        return s.len() <= octets::run(classes, s, octets::VISIBLE);
+    let (blocks, rest) = s.as_chunks::<16>();
+    match s.last_chunk::<16>() {
+        Some(last) => are_visible_blocks(blocks) && (rest.is_empty() || is_visible_block(last)),
+        None => is_all(Class::Visible, s),
     }
-    let last = s.len() - 16;
-    let mut i = 0;
-    while i < last {
-        if !visible_block(s, i) {
-            return false;
-        }
-        i += 16;
-    }
-    visible_block(s, last)
 }
 
-// The sixteen bytes from a place on are the same in both.
-fn same_block(s: &[u8], t: &[u8], at: usize) -> bool
-    requires { (at + 16 ≤ length s.now) × (length s.now ≡ length t.now) }
-    ensures { result ≡ same (take 16 (drop at s.now)) (take 16 (drop at t.now)) }
+// Every byte is in the class.
+pub(crate) fn is_all(class: Class, s: &[u8]) -> bool
+    ensures { result ≡ all (members class) s.now }
 {
-    let mut found = false;
-    let mut j = 0;
-    while j < 16 {
-        if s[at + j] != t[at + j] {
-            found = true;
-        }
-        j += 1;
-    }
-    !found
-}
-
-// Two texts of one length have the same bytes.
-pub(crate) fn is_same(s: &[u8], t: &[u8]) -> bool
-    requires { length s.now ≡ length t.now }
-    ensures { result ≡ same s.now t.now }
-{
-    if s.len() < 16 {
-        return octets::same(s, t);
-    }
-    let last = s.len() - 16;
-    let mut i = 0;
-    while i < last {
-        if !same_block(s, t, i) {
-            return false;
-        }
-        i += 16;
-    }
-    same_block(s, t, last)
+    class.run(s) == s.len()
 }

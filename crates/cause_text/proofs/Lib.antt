@@ -1,3 +1,3 @@
-pub mod Placing
+pub mod Columns
 pub mod Input
 pub mod Promises

@@ -14,8 +14,7 @@ use Rattle.causes.specs.Causes.{among, listed, given, status_entries, class_ends
 use Rattle.sip.specs.Output.{digits}
 use Rattle.sip.proofs.Tests.{and_left, and_right}
 use Rattle.emit.proofs.Numerals.{below_or_not, digits_le}
-use Rattle.cause_text.specs.declared.number.Number.{Number}
-use Rattle.cause_text.specs.declared.number.Number.TheVariants.{Is, Not}
+use Rattle.std.specs.Prelude.{Option, Some, None}
 use Rattle.cause_text.specs.Number.{without_lf, number_of}
 use Rattle.cause_text.specs.Text.{answer_text, blanks, column, table_line, table_from, table, line_text, printed}
 use Rattle.cause_text.specs.Promises.{PrintRoom, FirstBytes, EveryCause, lines_of, whole_table, WholeTable, printings, AllPrint, no_printing, printing}
@@ -42,10 +41,10 @@ answer_length c =
     rw (length-append, length-append, length-append)
     (omega (arith, digits_le 20 a.status, digits_le 20 a.row, digits_le 20 a.refusal))
 
-line_length : (n : Number) → (1 ≤ length (line_text n)) × (length (line_text n) ≤ 63)
+line_length : (n : Option ℕ) → (1 ≤ length (line_text n)) × (length (line_text n) ≤ 63)
 unfolding line_text answer_text text
-line_length (Is c) = let a = status c in (rw (length-append, length-append) (omega arith), answer_length c)
-line_length Not = (omega arith, omega arith)
+line_length (Some c) = let a = status c in (rw (length-append, length-append) (omega arith), answer_length c)
+line_length None = (omega arith, omega arith)
 
 pub print_room : PrintRoom
 unfolding printed
@@ -63,7 +62,7 @@ line_bytes s = go (eqb (get_or s (length s - 1) 0) 10) refl
     go true e = rw (e, length-take-le (length s - 1) s (omega arith)) (omega arith)
     go false e = rw e (omega arith)
 
-long_line : (s : List ℕ) → 32 ≤ length s → printed s ≡ line_text Not
+long_line : (s : List ℕ) → 32 ≤ length s → printed s ≡ line_text None
 unfolding number_of
 long_line s h =
     let l : 19 < length (without_lf s) = omega (arith, line_bytes s) in

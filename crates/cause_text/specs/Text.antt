@@ -1,10 +1,8 @@
 -- CR 4, "A cause table people can read": what is printed for what stands on standard input.
-use Rattle.std.specs.Prelude.{Bool, cond, List, [], ◌∷◌, ◌++◌, ℕ, zero, suc, ◌-◌, length}
+use Rattle.std.specs.Prelude.{Option, Some, None, Bool, cond, List, [], ◌∷◌, ◌++◌, ℕ, zero, suc, ◌-◌, length}
 use Rattle.octets.specs.Classes.{text}
 use Rattle.causes.specs.Causes.{listed, status_entries, status}
 use Rattle.sip.specs.Output.{whole_numeral, spaced}
-use Rattle.cause_text.specs.declared.number.Number.{Number}
-use Rattle.cause_text.specs.declared.number.Number.TheVariants.{Is, Not}
 use Rattle.cause_text.specs.Number.{without_lf, number_of}
 
 -- ---- one cause
@@ -53,9 +51,9 @@ table = table_from 128 0
 
 -- ---- what stands on standard input
 
-unfoldable pub line_text : Number → List ℕ
-line_text (Is c) = answer_text c
-line_text Not = text "not a number of 1 to 19 digits\n"
+unfoldable pub line_text : Option ℕ → List ℕ
+line_text (Some c) = answer_text c
+line_text None = text "not a number of 1 to 19 digits\n"
 
 -- for an empty input the table, for any other one line
 unfoldable pub printed : List ℕ → List ℕ

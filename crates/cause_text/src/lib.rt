@@ -1,28 +1,29 @@
 // What people read of the cause map.
 #![tactic(auto)]
 
-ghost use Rattle.std.specs.Prelude.{◌≤◌, length};
-ghost use Rattle.emit.specs.Put.{Wrote, Placed};
+ghost use Rattle.std.specs.Prelude.{◌≡◌};
+ghost use Rattle.emit.specs.Put.{Wrote};
+ghost use Rattle.emit.specs.Texts.{pushed};
 ghost use Rattle.cause_text.specs.Text.{printed};
 ghost use Rattle.cause_text.specs.Input.{Answers};
 
-use number::Number;
 use std::io::Read;
+use table::Lines;
 
 mod number;
 mod table;
 
-// What is printed for an input, at the front of the buffer.
-fn lines_for(out: &mut [u8], input: &[u8]) -> usize
-    requires { 1792 ≤ length out.old }
-    ensures { Placed out.old 0 (printed input.now) result out.new × (result ≤ 1792) }
+// What is printed for an input.
+fn push_lines(text: &mut Lines, input: &[u8])
+    ensures { text.new ≡ pushed 1792 text.old (printed input.now) }
 {
-    if input.len() < 1 {
-        return table::put_table(out);
+    if input.is_empty() {
+        table::push_table(text);
+        return;
     }
     match number::number_of(number::without_lf(input)) {
-        Number::Is(cause) => table::put_answer(out, cause),
-        Number::Not => table::put_text(out, 0, b"not a number of 1 to 19 digits\n"),
+        Some(cause) => table::push_answer(text, cause),
+        None => text.push(b"not a number of 1 to 19 digits\n"),
     }
 }
 
@@ -31,10 +32,9 @@ fn lines_for(out: &mut [u8], input: &[u8]) -> usize
 pub fn put_lines(out: &mut [u8], input: &[u8]) -> usize
     ensures { Wrote out.old 0 (printed input.now) result out.new }
 {
-    // 14 bytes for each of the 128 causes: nothing that is printed is longer.
-    let mut space = [0u8; 1792];
-    let n = lines_for(&mut space, input);
-    emit::put(out, 0, octets::first(&space, n))
+    let mut text = Lines::new();
+    push_lines(&mut text, input);
+    text.put(out, 0)
 }
 
 // Reads the input, and writes what is printed for it. More bytes are read than a line of 19 digits has, so that a longer one is seen

@@ -11,6 +11,7 @@ use mir.Facts.{and_yes, or_yes}
 use mir.Val.{has_key}
 use types.Run.{OneOf, hit}
 use Rattle.causes.specs.Causes.{Entry, entry}
+use Rattle.causes.specs.Answers.{above_zero}
 
 -- the numbers of `from` to below `below`, and what those that are no key give
 pub record Range : Type 0 where
@@ -107,3 +108,11 @@ module _ {f : ℕ → ℕ} {arms : List Entry} {ranges : List Range} (right : Ri
 
   pub in_range : (range_at ranges i).from ≤ s → s < (range_at ranges i).below → Missed (Unit {0}) arms s → (range_at ranges i).gives ≡ f s
   in_range a b m = rest_right f arms ranges i s right.rest a b m
+
+-- the same where 0 says that there is none
+module _ {f : ℕ → ℕ} {arms : List Entry} {ranges : List Range} (right : Right f arms ranges) (i : ℕ) (s : ℕ) where
+  pub above_at_key : OneOf (arm_at arms i).keys s → above_zero (arm_at arms i).gives ≡ above_zero (f s)
+  above_at_key e = ap above_zero (at_key right i e)
+
+  pub above_in_range : (range_at ranges i).from ≤ s → s < (range_at ranges i).below → Missed (Unit {0}) arms s → above_zero (range_at ranges i).gives ≡ above_zero (f s)
+  above_in_range a b m = ap above_zero (in_range right i a b m)

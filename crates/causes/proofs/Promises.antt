@@ -12,7 +12,11 @@ use mir.Facts.{and_yes, or_yes}
 use Rattle.causes.specs.declared.StatusAnswer.{StatusAnswer}
 use Rattle.causes.specs.Causes.{among, listed, given, status_entries, class_ends, next_above, row_of, status_of, status}
 use Rattle.causes.specs.Promises.{Run, statuses_before, in_runs, EveryStatusStays, listed_causes, Listed, OverRefused, OwnRow, NextAbove, ClassEndRow, RowGives, NoneRefused, cases, AllGive, no_case, one_case}
-use Rattle.causes.proofs.Rows.{not_among, past, listed_given}
+use Rattle.causes.specs.declared.StatusRow.{StatusRow}
+use Rattle.causes.specs.declared.Refusal.TheVariants.{Cause}
+use Rattle.causes.specs.Answers.{listed_row, end_row, status_answer}
+use Rattle.std.specs.Prelude.{Option, None, Some, ok_or, MatchOption}
+use Rattle.causes.proofs.Rows.{not_among, past, listed_given, none_above}
 
 pub over_refused : OverRefused
 unfolding status
@@ -217,3 +221,44 @@ none_refused c h =
       some_row = is_within 1 127 a.row more.0;
       some_status = is_within 404 503 a.status more.1;
     }
+
+-- ---- what the code answers
+
+-- a listed cause has its own row; of any other that of its class end
+abbrev either_row : Option StatusRow → Option StatusRow → Option StatusRow
+either_row None b = b
+either_row (Some r) b = Some r
+
+abbrev answer_of : ℕ → StatusAnswer
+answer_of c = status_answer (ok_or (either_row (listed_row c) (end_row c)) Cause)
+
+abbrev row_answers : ℕ → Bool
+row_answers c =
+    let a = status c in
+    let b = answer_of c in
+    eqb b.status a.status && (eqb b.row a.row && eqb b.refusal a.refusal)
+
+row_answers_so : T (each row_answers 0 128)
+unfolding each status status_of row_of status_entries class_ends next_above listed given among
+row_answers_so = tt
+
+none_answers : (c : ℕ) → 127 < c → answer_of c ≡ status c
+unfolding status_of status_entries class_ends
+none_answers c h =
+    rw (over_refused c h, ← past 0 status_entries [] 128 tt h tt, ← none_above class_ends 127 tt {s = c} (omega arith))
+
+answers : (c : ℕ) → answer_of c ≡ status c
+answers c = go (ltb 127 c) refl
+  where
+    go : (t : Bool) → ltb 127 c ≡ t → answer_of c ≡ status c
+    go true e = none_answers c (ltb-true 127 c e)
+    go false e = same_answer (status c) (answer_of c) (holds row_answers row_answers_so c (ltb-false 127 c e))
+
+either : (a b r : Option StatusRow) → MatchOption a (r ≡ b) (λ x. r ≡ Some x) → r ≡ either_row a b
+either None b r e = e
+either (Some x) b r e = e
+
+pub map_answers : (c : ℕ) (a r : Option StatusRow) → a ≡ listed_row c → MatchOption a (r ≡ end_row c) (λ x. r ≡ Some x) → status_answer (ok_or r Cause) ≡ status c
+map_answers c a r own found =
+    let e : r ≡ either_row (listed_row c) (end_row c) = rw own at (either a (end_row c) r found) in
+    rw e (answers c)

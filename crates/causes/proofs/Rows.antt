@@ -8,7 +8,7 @@ use native.Mathlib.Omega.{arith}
 use lib.Dec.{T, eqb, leb, ltb, leb→le, ltb→lt}
 use borrow.Author.Tests.{ne_eqb, le-ltb}
 use mir.Facts.{and_yes, or_yes}
-use Rattle.causes.specs.Causes.{Entry, among, listed, given, status_entries, class_ends, next_above, row_of, status_of}
+use Rattle.causes.specs.Causes.{Entry, among, listed, given, next_above}
 use Rattle.causes.proofs.Arms.{Missed, is_key, missed}
 
 -- each of the numbers is a key of the arms, or lies below n
@@ -69,16 +69,3 @@ listed_given [] n t = refl
 listed_given (r ∷ rs) n t =
     let both = and_yes (ltb 0 r.gives) (positive rs) t in
     first (among r.keys n) (listed rs n) r.gives (given 0 rs n) (ltb→lt 0 r.gives both.0) (listed_given rs n both.1)
-
-module _ (c : ℕ) {t : ℕ} (status : t ≡ status_of c) where
-  row_listed : listed status_entries c ≡ not (eqb t 0)
-  unfolding status_of status_entries
-  row_listed = rw status (listed_given status_entries c tt)
-
-  pub end_row : {r : ℕ} → t ≡ 0 → r ≡ next_above class_ends c → r ≡ row_of c
-  unfolding row_of
-  end_row z e = rw (row_listed, z) e
-
-  pub listed_row : (t ≡ 0 → ⊥) → c ≡ row_of c
-  unfolding row_of
-  listed_row z = rw (row_listed, ne_eqb t 0 z)

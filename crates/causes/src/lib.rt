@@ -1,9 +1,37 @@
 #![tactic(auto)]
 
 ghost use Rattle.std.specs.Prelude.{◌≡◌};
-ghost use Rattle.causes.specs.Causes.{class_ends, next_above, row_of, status_of, status, cause_of, cause};
+ghost use Rattle.causes.specs.Causes.{class_ends, next_above, status_of, status, cause_of, cause};
+ghost use Rattle.causes.specs.Answers.{above_zero, listed_row, end_row, refusal_number, status_answer, cause_answer};
 
-// The status for a cause value and the cause whose row gave it, or status 0, row 0 and refusal 21.
+// The map has no answer: for a cause value over 127, or for a status outside 400 to 699.
+#[derive(Clone, Copy, Debug, PartialEq, Eq)]
+pub enum Refusal {
+    Cause,
+    Status,
+}
+
+impl Refusal {
+    // The refusal's number, as the exports hand it out.
+    #[inline(always)]
+    pub fn number(self) -> u64
+        ensures { result ≡ refusal_number self }
+    {
+        match self {
+            Refusal::Cause => 21,
+            Refusal::Status => 22,
+        }
+    }
+}
+
+// The status for a cause value and the cause whose row gave it.
+#[derive(Clone, Copy, Debug, PartialEq, Eq)]
+pub struct StatusRow {
+    pub status: u64,
+    pub row: u64,
+}
+
+// The C interface and the printed lines have three numbers: status, row and refusal 0, or status 0, row 0 and the refusal.
 #[derive(Clone, Copy)]
 pub struct StatusAnswer {
     pub status: u64,
@@ -11,76 +39,105 @@ pub struct StatusAnswer {
     pub refusal: u64,
 }
 
-// The cause value for a status, or cause 0 and refusal 22.
+impl From<Result<StatusRow, Refusal>> for StatusAnswer {
+    ghost from_gives = { λ r a. a ≡ status_answer r };
+
+    #[inline(always)]
+    fn from(answer: Result<StatusRow, Refusal>) -> StatusAnswer {
+        match answer {
+            Ok(found) => StatusAnswer {
+                status: found.status,
+                row: found.row,
+                refusal: 0,
+            },
+            Err(refusal) => StatusAnswer {
+                status: 0,
+                row: 0,
+                refusal: refusal.number(),
+            },
+        }
+    }
+}
+
+// The C interface has two numbers: cause and refusal 0, or cause 0 and the refusal.
 #[derive(Clone, Copy)]
 pub struct CauseAnswer {
     pub cause: u64,
     pub refusal: u64,
 }
 
-// The status of a listed cause, 0 for one that has no row of its own.
-fn status_of_row(row: u64) -> u64
-    ensures { result ≡ status_of row }
+impl From<Result<u64, Refusal>> for CauseAnswer {
+    ghost from_gives = { λ r a. a ≡ cause_answer r };
+
+    fn from(answer: Result<u64, Refusal>) -> CauseAnswer {
+        match answer {
+            Ok(cause) => CauseAnswer { cause, refusal: 0 },
+            Err(refusal) => CauseAnswer {
+                cause: 0,
+                refusal: refusal.number(),
+            },
+        }
+    }
+}
+
+// The status of a listed cause; no other has a row of its own. No table is searched: these matches are the lists as the page writes them.
+fn status_of_row(row: u64) -> Option<u64>
+    ensures { result ≡ above_zero (status_of row) }
 {
     match row {
-        5 | 91 => 404,
-        17 => 486,
-        18..=21 | 25 | 31 | 34 | 102 => 480,
-        22 => 410,
-        27 => 502,
-        28 => 484,
+        5 | 91 => Some(404),
+        17 => Some(486),
+        18..=21 | 25 | 31 | 34 | 102 => Some(480),
+        22 => Some(410),
+        27 => Some(502),
+        28 => Some(484),
         2..=4 | 29 | 38 | 41..=44 | 47 | 50 | 57 | 58 | 63 | 65 | 70 | 79 | 88 | 95 | 97 | 99 =>
-            503,
-        1 => 404,
-        111 | 127 => 500,
-        _ => 0,
+            Some(503),
+        1 => Some(404),
+        111 | 127 => Some(500),
+        _ => None,
     }
 }
 
-// The class end next above a cause, 0 where there is none.
-fn class_end(cause: u64) -> u64
-    ensures { result ≡ next_above class_ends cause }
+// The class end next above a cause.
+fn class_end(cause: u64) -> Option<u64>
+    ensures { result ≡ above_zero (next_above class_ends cause) }
 {
     match cause {
-        0..=30 => 31,
-        31..=46 => 47,
-        47..=62 => 63,
-        63..=78 => 79,
-        79..=94 => 95,
-        95..=110 => 111,
-        111..=126 => 127,
-        _ => 0,
+        0..=30 => Some(31),
+        31..=46 => Some(47),
+        47..=62 => Some(63),
+        63..=78 => Some(79),
+        79..=94 => Some(95),
+        95..=110 => Some(111),
+        111..=126 => Some(127),
+        _ => None,
     }
 }
 
-// The cause whose row counts: itself where it is listed, else its class end.
-fn row_of(cause: u64) -> u64
-    ensures { result ≡ row_of cause }
+// The row of a listed cause.
+#[inline(always)]
+fn listed_row(cause: u64) -> Option<StatusRow>
+    ensures { result ≡ listed_row cause }
 {
-    if status_of_row(cause) == 0 {
-        class_end(cause)
-    } else {
-        cause
-    }
+    status_of_row(cause).map(|status| StatusRow { status, row: cause })
 }
 
-// Cause (Q.850) to status (SIP).
-pub fn status_of_cause(cause: u64) -> StatusAnswer
-    ensures { result ≡ status cause }
+// The row of the class end next above a cause.
+#[inline(always)]
+fn end_row(cause: u64) -> Option<StatusRow>
+    ensures { result ≡ end_row cause }
 {
-    if 127 < cause {
-        return StatusAnswer {
-            status: 0,
-            row: 0,
-            refusal: 21,
-        };
-    }
-    let row = row_of(cause);
-    StatusAnswer {
-        status: status_of_row(row),
-        row,
-        refusal: 0,
-    }
+    listed_row(class_end(cause)?)
+}
+
+// Cause (Q.850) to status (SIP). Over 127 no cause is listed and no class ends.
+pub fn status_of_cause(cause: u64) -> Result<StatusRow, Refusal>
+    ensures { status_answer result ≡ status cause }
+{
+    listed_row(cause)
+        .or_else(|| end_row(cause))
+        .ok_or(Refusal::Cause)
 }
 
 // The cause for a status of 400 to 699; what RFC 3398 does not list is 127, interworking.
@@ -105,17 +162,11 @@ fn cause_within(status: u64) -> u64
 }
 
 // Status (SIP) to cause (Q.850), by RFC 3398.
-pub fn cause_of_status(status: u64) -> CauseAnswer
-    ensures { result ≡ cause status }
+pub fn cause_of_status(status: u64) -> Result<u64, Refusal>
+    ensures { cause_answer result ≡ cause status }
 {
     match status {
-        400..=699 => CauseAnswer {
-            cause: cause_within(status),
-            refusal: 0,
-        },
-        _ => CauseAnswer {
-            cause: 0,
-            refusal: 22,
-        },
+        400..=699 => Ok(cause_within(status)),
+        _ => Err(Refusal::Status),
     }
 }

@@ -15,10 +15,10 @@ module _ (d : List ℕ) (at : ℕ) (s : List ℕ) (h : at + length s ≤ length 
       let r : at + j < length d = omega arith in
       rw (z, e, add-one) (paste-suc d at s j 0 r l)
 
-  pub copied_all : {r : ℕ} → j ≤ length s → length s ≤ j → r ≡ at + j → Wrote d at s r o
-  copied_all l m z =
+  pub copied_all : j ≤ length s → length s ≤ j → Wrote d at s (at + length s) o
+  copied_all l m =
       let q : j ≡ length s = omega arith in
       record {
-        next = z ∙ rw q (sym (next_room d at s h));
+        next = sym (next_room d at s h);
         holds = e ∙ rw (q, take-length s) (append_assoc (take at d) s (drop (at + length s) d) ∙ sym (put_room d at s h));
       }

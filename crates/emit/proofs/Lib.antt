@@ -3,3 +3,4 @@ pub mod Copies
 pub mod Numerals
 pub mod Pieces
 pub mod Placing
+pub mod Pushes

@@ -2,8 +2,12 @@
 use mathlib.Core.Path.{◌≡◌, refl, sym, ap, ◌∙◌}
 use mathlib.Core.Bool.{Bool, true, false}
 use mathlib.Core.List.{List, [], ◌∷◌, ◌++◌}
-use Prim.Native.Nat.{ℕ, zero, suc, ◌+◌, ◌-◌, ◌*◌, ◌/◌, ◌%◌, ◌^◌, ◌≤◌, ◌<◌}
+use Prim.Native.Nat.{ℕ, zero, suc, ◌+◌, ◌-◌, ◌*◌, ◌/◌, ◌%◌, ◌^◌, ◌≤◌, ◌<◌, min}
+use native.Mathlib.Nat.{pow-suc}
+use Rattle.std.proofs.Math.Nat.{one-le-pow}
 use native.Mathlib.Omega.{arith}
+use mathlib.Core.Logic.{◌⊎◌, inl, inr}
+use Rattle.std.specs.Prelude.{Option, None, Some, IfNone, IfSome, unwrap_or}
 use lib.Dec.{leb, ltb}
 use lib.ListN.{length, length-append}
 use borrow.Author.Tests.{lt-ltb, le-ltb, ltb-true, ltb-false, leb-true}
@@ -63,15 +67,16 @@ digits_lowest (suc k) n =
 
 -- ---- writing: by the answer t whether there is room
 
-module _ (d : List ℕ) (at k n : ℕ) {size : ℕ} (l : size ≡ length (digits k n)) {t : Bool} (e : t ≡ leb (at + size) (length d)) where
-  pub digits_fit : t ≡ true → at + size ≤ length d
-  digits_fit q = leb-true (at + size) (length d) (sym e ∙ q)
+module _ (d : List ℕ) (at n size : ℕ) {t : Bool} (e : t ≡ leb (at + size) (length d)) where
+  pub lowest_fit : t ≡ true → at + size ≤ length d
+  lowest_fit q = leb-true (at + size) (length d) (sym e ∙ q)
 
-  pub digits_full : t ≡ false → Wrote d at (digits k n) at d
-  digits_full q = room_no d at (digits k n) (e ∙ rw l) q
+  pub lowest_full : t ≡ false → Wrote d at (lowest size n) at d
+  lowest_full q = room_no d at (lowest size n) (e ∙ rw lowest_length) q
 
-  pub digits_written : {r : ℕ} {o : List ℕ} → Wrote d at (lowest size n) r o → Wrote d at (digits k n) r o
-  digits_written w = wrote_as w (digits k n) (rw l (sym (digits_lowest k n)))
+-- as many of the lowest digits as there are
+pub digits_written : (k : ℕ) {d : List ℕ} {at : ℕ} (n : ℕ) {size : ℕ} {r : ℕ} {o : List ℕ} → size ≡ length (digits k n) → Wrote d at (lowest size n) r o → Wrote d at (digits k n) r o
+digits_written k n l w = wrote_as w (digits k n) (rw l (sym (digits_lowest k n)))
 
 -- ---- reading back
 
@@ -102,6 +107,22 @@ module _ (n : ℕ) where
 
 -- ---- lengths
 
+-- a number of j + 1 digits is written with as many, and with k where it has more
+pub digits_length : (k n j : ℕ) → 10 ^ j ≤ n ⊎ ((n ≡ 0) × (j ≡ 0)) → n < 10 * 10 ^ j → length (digits k n) ≡ min k (j + 1)
+digits_length zero n j p h = omega (arith, digits_le 0 n)
+digits_length (suc k) n zero p h = one_length k n (omega arith) ∙ omega arith
+digits_length (suc k) n (suc j) p h =
+    let q : 10 ^ suc j ≡ 10 ^ j * 10 = pow-suc 10 j in
+    let o : 1 ≤ 10 ^ j = one-le-pow j 10 (omega arith) in
+    let a : 10 ^ suc j ≤ n = elim p [ inl x ↦ x | inr x ↦ absurd (omega arith) ] in
+    let l : 10 ≤ n = omega arith in
+    more_length k n l ∙ rw (digits_length k (n / 10) j (inl (omega arith)) (omega arith)) (omega arith)
+
+-- as `checked_ilog10` says
+pub logged_length : (n : ℕ) (o : Option ℕ) → IfNone o (n ≡ 0) → IfSome o (λ j. 10 ^ j ≤ n) → IfSome o (λ j. n < 10 * 10 ^ j) → IfSome o (λ j. j < 20) → unwrap_or o 0 + 1 ≡ length (whole_numeral n)
+logged_length n None z l h b = sym (digits_length 20 n 0 (inr (z, refl)) (omega arith))
+logged_length n (Some j) z l h b = sym (digits_length 20 n j (inl l) h ∙ omega arith)
+
 module _ (n : ℕ) where
   pub len1 : n < 10 → 1 ≡ length (numeral n)
   len1 h = sym (one_length 4 n h)
@@ -125,24 +146,3 @@ module _ (n : ℕ) where
   len5 l =
       let x : ℕ = n / 10 / 10 / 10 in
       omega (arith, three_more (omega arith), more_length 1 x (omega arith), one_digit (x / 10))
-
--- ---- counting: size digits, of which the last is not counted off yet, and rest is what they leave
-
-module _ (n rest size : ℕ) (a : 1 ≤ size) (b : size ≤ 20) (e : length (whole_numeral n) + 1 ≡ size + length (digits (21 - size) rest)) where
-  rest_length : length (whole_numeral n) + 1 ≡ size + length (digits (suc (20 - size)) rest)
-  rest_length = let z : 21 - size ≡ suc (20 - size) = omega arith in rw z at e
-
-  pub counted_last : rest < 10 → size ≡ length (whole_numeral n)
-  counted_last h = omega (arith, rest_length, one_length (20 - size) rest h)
-
-  pub counted_next : 10 ≤ rest → {j x : ℕ} → j ≡ size + 1 → x ≡ rest / 10
-      → length (whole_numeral n) + 1 ≡ j + length (digits (21 - j) x)
-  counted_next h {j} {x} y z =
-      let w : 21 - j ≡ 20 - size = omega arith in
-      rw (w, z) (omega (arith, rest_length, more_length (20 - size) rest h))
-
-  pub counted_all : 20 ≤ size → size ≡ length (whole_numeral n)
-  counted_all h =
-      let z : 20 - size ≡ 0 = omega arith in
-      let w : length (whole_numeral n) + 1 ≡ size + length (digits 1 rest) = rw z at rest_length in
-      omega (arith, one_digit rest)

@@ -1,4 +1,6 @@
-// Writes into a lent buffer. A writer that is handed too little room writes nothing.
+// Writes into a lent buffer. A writer that is handed too little room writes nothing. The place goes along with the buffer in no struct:
+// the buffer is the one that C lends, and `put` and `put_whole_number` are named in docs/changes. The place that stays says that there was no
+// room: that is what `Wrote` and the clauses of all callers speak of.
 #![tactic(auto)]
 
 ghost use Rattle.std.specs.Prelude.{◌≡◌, [], ◌∷◌, ◌+◌, ◌≤◌, ◌<◌, leb, length};
@@ -6,6 +8,10 @@ ghost use Rattle.sip.specs.Lines.{joined, folded, unfolded_at};
 ghost use Rattle.sip.specs.Output.{numeral, whole_numeral};
 ghost use Rattle.emit.specs.Put.{Wrote};
 ghost use Rattle.emit.specs.Digits.{last, lowest};
+
+pub use texts::Text;
+
+mod texts;
 
 // A buffer of len bytes has room for size more at the place. No sum is made that could overflow. The size, mostly a constant, goes first.
 fn has_room(len: usize, at: usize, size: usize) -> bool
@@ -17,17 +23,16 @@ fn has_room(len: usize, at: usize, size: usize) -> bool
     at <= len - size
 }
 
-// Copies s byte by byte to the place, which has room for it, and returns the place after it. Mostly it is one space.
+// Copies s to the place, which has room for it, and returns the place after it.
 fn copy(out: &mut [u8], at: usize, s: &[u8]) -> usize
     requires { at + length s.now ≤ length out.old }
     ensures { Wrote out.old at s.now result out.new }
 {
-    let mut j = 0;
-    while j < s.len() {
+    // Mostly it is one space: `copy_from_slice` takes 2.8% more on a value of many folds.
+    for j in 0..s.len() {
         out[at + j] = s[j];
-        j += 1;
     }
-    at + j
+    at + s.len()
 }
 
 // Writes s at the place, and returns the place after it. Where there is no room the buffer and the place stay.
@@ -53,32 +58,34 @@ fn put_digits(out: &mut [u8], at: usize, n: u64, size: usize) -> usize
     ensures { Wrote out.old at (lowest size n) result out.new }
 {
     let mut left = n;
-    let mut i = size;
-    while 0 < i {
-        i -= 1;
+    for i in (0..size).rev() {
         out[at + i] = digit(left);
         left /= 10;
     }
     at + size
 }
 
-// How many bytes `put_five_digits` writes.
+// Writes the lowest digits of a number, size of them. Where there is no room the buffer and the place stay.
+fn put_lowest(out: &mut [u8], at: usize, n: u64, size: usize) -> usize
+    ensures { Wrote out.old at (lowest size n) result out.new }
+{
+    if has_room(out.len(), at, size) {
+        return put_digits(out, at, n, size);
+    }
+    at
+}
+
+// How many bytes `put_five_digits` writes. By `checked_ilog10` a call's BYE takes 1.5% more.
 pub fn five_digits_len(n: usize) -> usize
     ensures { result ≡ length (numeral n) }
 {
-    if n < 10 {
-        return 1;
+    match n {
+        0..=9 => 1,
+        10..=99 => 2,
+        100..=999 => 3,
+        1000..=9999 => 4,
+        _ => 5,
     }
-    if n < 100 {
-        return 2;
-    }
-    if n < 1000 {
-        return 3;
-    }
-    if n < 10000 {
-        return 4;
-    }
-    5
 }
 
 // Writes the digits of a number of at most five, without leading zeros; of a longer number the last five, zeros too. Where there is no
@@ -86,38 +93,22 @@ pub fn five_digits_len(n: usize) -> usize
 pub fn put_five_digits(out: &mut [u8], at: usize, n: usize) -> usize
     ensures { Wrote out.old at (numeral n) result out.new }
 {
-    let size = five_digits_len(n);
-    if has_room(out.len(), at, size) {
-        return put_digits(out, at, n as u64, size);
-    }
-    at
+    put_lowest(out, at, n as u64, five_digits_len(n))
 }
 
 // How many digits a number has: no number of 64 bits has more than twenty.
 fn whole_number_len(n: u64) -> usize
     ensures { result ≡ length (whole_numeral n) }
 {
-    let mut rest = n;
-    let mut size = 1;
-    while size < 20 {
-        if rest < 10 {
-            return size;
-        }
-        rest /= 10;
-        size += 1;
-    }
-    size
+    n.checked_ilog10().unwrap_or(0) as usize + 1
 }
 
-// Writes all digits of a number, without leading zeros. Where there is no room the buffer and the place stay.
+// Writes all digits of a number, without leading zeros. Where there is no room the buffer and the place stay. It is not `write!`: that
+// tells what stands only where it succeeds, and no clause of `fmt::Write` says that it does where there is room.
 pub fn put_whole_number(out: &mut [u8], at: usize, n: u64) -> usize
     ensures { Wrote out.old at (whole_numeral n) result out.new }
 {
-    let size = whole_number_len(n);
-    if has_room(out.len(), at, size) {
-        return put_digits(out, at, n, size);
-    }
-    at
+    put_lowest(out, at, n, whole_number_len(n))
 }
 
 // How many bytes a run of gap bytes has once it is joined.
@@ -130,7 +121,8 @@ fn joined_len(g: &[u8]) -> usize
     g.len()
 }
 
-// How many bytes `put_folded` writes.
+// How many bytes `put_folded` writes. This, `unfolded_at` and `put_pieces` share `octets::gap_end` and `joined_len`; what is left of each
+// loop is its own, and as a fold over pieces it is no plainer: one stops early, one writes, one counts.
 pub fn folded_len(v: &[u8]) -> usize
     ensures { (result ≡ length (folded 0 v.now)) × (result ≤ length v.now) }
 {
@@ -150,7 +142,8 @@ pub fn folded_len(v: &[u8]) -> usize
     size
 }
 
-// Where the k-th byte, from 0, of v folded stands in v; the end of v where there are not so many.
+// Where the k-th byte, from 0, of v folded stands in v; the end of v where there are not so many. A turn passes a byte or a run, as in
+// `folded_len`.
 pub fn unfolded_at(v: &[u8], k: usize) -> usize
     ensures { (result ≡ unfolded_at k 0 v.now) × (result ≤ length v.now) }
 {
@@ -197,7 +190,7 @@ fn put_joined(out: &mut [u8], at: usize, g: &[u8]) -> usize
     copy(out, at, g)
 }
 
-// Writes v folded where there is room for the whole: a byte that is no gap by itself, and a run of gap bytes at once.
+// Writes v folded where there is room for the whole: a byte that is no gap by itself, and a run of gap bytes at once, as in `folded_len`.
 fn put_pieces(out: &mut [u8], at: usize, v: &[u8]) -> usize
     requires { at + length (folded 0 v.now) ≤ length out.old }
     ensures { Wrote out.old at (folded 0 v.now) result out.new }

@@ -6,9 +6,9 @@ use mathlib.Core.List.{List, [], ◌∷◌, ◌++◌, append_assoc}
 use mathlib.Core.Option.{Option, none, some}
 use Prim.Native.Nat.{ℕ, suc, ◌+◌, ◌≤◌, ◌<◌}
 use native.Mathlib.Omega.{arith}
-use lib.Dec.{eqb}
+use lib.Dec.{eqb, ltb}
 use lib.ListN.{length, take, drop, take-append-drop}
-use borrow.Author.Tests.{not-true, not-false, eqb-true, eq-eqb, ne_eqb, le-ltb, lt-ltb, le-leb}
+use borrow.Author.Tests.{eqb-true, eq-eqb, ne_eqb, le-ltb, lt-ltb, le-leb}
 use Rattle.octets.specs.Classes.{text, within, is_token, is_blank, is_break, is_gap, is_visible}
 use Rattle.octets.specs.Scans.{run, all, any, same}
 use Rattle.octets.proofs.Runs.{run_all}
@@ -36,16 +36,20 @@ use Rattle.sip.proofs.Screening.{withheld_invite, hides_withheld}
 use Rattle.sip.proofs.Calls.Pairs.{made}
 use Rattle.sip.proofs.Calls.Places.{id_long, tag_short}
 use Rattle.sip.proofs.Calls.Tables.{full_place, new_within, removed_none}
-use Rattle.calls.specs.Places.{pair as pair_of, fits}
+use Rattle.calls.specs.Places.{fits}
 use Rattle.lines.specs.declared.Slot.{Slot}
 use Rattle.judgement.specs.declared.Judged.{Judged}
 use Rattle.judgement.specs.Entries.{value_at, first_slot}
 use Rattle.judgement.specs.Judges.{Told, nothing, also, Passes}
 use Rattle.judgement.proofs.Slots.{slot_value}
-use Rattle.gateway.specs.declared.CallState.{CallState}
-use Rattle.gateway.specs.declared.CallState.TheVariants.{Shown, Hidden, Ending, New, TooMany}
-use Rattle.gateway.specs.CallStates.{call_id_in, tag_in, pair_in, known_state, new_state, state_in, asked, state_for, masked_by}
-use Rattle.gateway.specs.CallStates.{overfull, table_by}
+use Rattle.std.proofs.Common.{Result, Ok, Err}
+use Rattle.judgement.specs.declared.Refusal.{Refusal}
+use Rattle.gateway.specs.declared.Side.{Side}
+use Rattle.gateway.specs.declared.Side.TheVariants.{Trusted, Untrusted}
+use Rattle.gateway.specs.declared.remembered.CallState.{CallState}
+use Rattle.gateway.specs.declared.remembered.CallState.TheVariants.{Shown, Hidden, Ending, New}
+use Rattle.gateway.specs.CallStates.{call_id_in, tag_in, pair_in, side_number, known_state, new_state, state_in, asked, state_for, masked_by}
+use Rattle.gateway.specs.CallStates.{too_many, table_by}
 
 -- ---- a text without gaps stands in its value as it is
 
@@ -246,13 +250,12 @@ module _ (m slots : List ℕ) {j : Judged} (p : Passes m slots j) where
     abbrev pair : Pair
     pair = pair_in m slots j.count j.tag
 
-    abbrev state : CallState
+    abbrev state : Result CallState Refusal
     state = state_for m side slots j t
 
-    abbrev Is : CallState → Type 0
-    Is s =
-        verdict m side t
-        ≡ cond (overfull s) (refuses (refusal 18 503 0 0)) (sends p.message.line (output (masked_by s) p.message) (table_by s pair t))
+    abbrev pub Is : Result CallState Refusal → Type 0
+    Is (Ok s) = verdict m side t ≡ sends p.message.line (output (masked_by s) p.message) (table_by s pair t)
+    Is (Err r) = verdict m side t ≡ refuses (refusal r.reason r.reply r.detail r.missing)
 
     -- what the pages ask of the message and of the table
     module _ (one req w bye h full : Bool) (e1 : eqb side 1 ≡ one) (e2 : is_request p.message.line ≡ req)
@@ -267,17 +270,17 @@ module _ (m slots : List ℕ) {j : Judged} (p : Passes m slots j) where
           rw (le-leb side 1 low, p.is_accepted, hides_withheld m p.message p.is_accepted side, call_here, e1, e2, e3, e4, e5, e6)
 
     -- what the code makes of it
-    state_0 : eqb side 1 ≡ false → state ≡ Shown
+    state_0 : eqb side 1 ≡ false → state ≡ Ok Shown
     unfolding state_for asked
     state_0 e = rw e
 
-    state_response : is_request p.message.line ≡ false → state ≡ Shown
+    state_response : is_request p.message.line ≡ false → state ≡ Ok Shown
     unfolding state_for asked
     state_response e =
         let z : not (eqb j.before 0) ≡ false = sym not_before ∙ e in
         rw z (both (eqb side 1))
       where
-        both : (b : Bool) → cond (b && false) (state_in m slots j.count j.tag j.withheld t) Shown ≡ Shown
+        both : (b : Bool) → cond (b && false) (state_in m slots j.count j.tag j.withheld t) (Ok Shown) ≡ Ok Shown
         both true = refl
         both false = refl
 
@@ -286,12 +289,12 @@ module _ (m slots : List ℕ) {j : Judged} (p : Passes m slots j) where
       unfolding state_for asked
       state_1 = let z : not (eqb j.before 0) ≡ true = sym not_before ∙ e2 in rw (e1, z)
 
-      state_held : is_held pair t ≡ true → state ≡ cond (is_method (text "BYE") p.message.line) Ending Hidden
+      state_held : is_held pair t ≡ true → state ≡ Ok (cond (is_method (text "BYE") p.message.line) Ending Hidden)
       unfolding state_in known_state
       state_held h = state_1 ∙ rw (h, bye_here e2)
 
       module _ (h : is_held pair t ≡ false) where
-        state_shown : withheld p.message.fields ≡ false → state ≡ Shown
+        state_shown : withheld p.message.fields ≡ false → state ≡ Ok Shown
         unfolding state_in
         state_shown w = let z : j.withheld ≡ false = sym p.withheld_is ∙ w in state_1 ∙ rw (h, z)
 
@@ -300,18 +303,17 @@ module _ (m slots : List ℕ) {j : Judged} (p : Passes m slots j) where
           unfolding state_in
           state_new = let z : j.withheld ≡ true = sym p.withheld_is ∙ w in state_1 ∙ rw (h, z)
 
-          state_full : is_full t ≡ true → state ≡ TooMany
+          state_full : is_full t ≡ true → state ≡ Err too_many
           unfolding new_state
           state_full f =
               let z : new_place t ≡ 32 = eqb-true (new_place t) 32 (sym (full_place t) ∙ f) in
               state_new ∙ rw (le-ltb (new_place t) 32 (omega arith)) refl
 
-          state_room : is_full t ≡ false → state ≡ New (new_place t)
+          state_room : is_full t ≡ false → state ≡ Ok (New (new_place t))
           unfolding new_state
           state_room f = state_new ∙ rw (lt-ltb (new_place t) 32 (new_within t f)) refl
 
     pub verdict_is : Is state
-    unfolding masked_by overfull table_by
     verdict_is =
         go (eqb side 1) (is_request p.message.line) (withheld p.message.fields) (is_method (text "BYE") p.message.line) (is_held pair t)
         (is_full t) refl refl refl refl refl refl
@@ -328,13 +330,13 @@ module _ (m slots : List ℕ) {j : Judged} (p : Passes m slots j) where
             rw (state_response e2) (decided_as true false false false h full e1 e2 e3 e4 e5 e6)
         go true true true true h full e1 e2 e3 e4 e5 e6 = let z = not_bye (invite e3) in never (cc)
         go true true true false true full e1 e2 e3 e4 e5 e6 =
-            let k : state ≡ Hidden = rw e4 at (state_held e1 e2 e5) in
+            let k : state ≡ Ok Hidden = rw e4 at (state_held e1 e2 e5) in
             rw k (decided_as true true true false true full e1 e2 e3 e4 e5 e6)
         go true true false true true full e1 e2 e3 e4 e5 e6 =
-            let k : state ≡ Ending = rw e4 at (state_held e1 e2 e5) in
+            let k : state ≡ Ok Ending = rw e4 at (state_held e1 e2 e5) in
             rw k (decided_as true true false true true full e1 e2 e3 e4 e5 e6)
         go true true false false true full e1 e2 e3 e4 e5 e6 =
-            let k : state ≡ Hidden = rw e4 at (state_held e1 e2 e5) in
+            let k : state ≡ Ok Hidden = rw e4 at (state_held e1 e2 e5) in
             rw k (decided_as true true false false true full e1 e2 e3 e4 e5 e6)
         go true true true false false true e1 e2 e3 e4 e5 e6 =
             rw (state_full e1 e2 e5 e3 e6) (decided_as true true true false false true e1 e2 e3 e4 e5 e6)
@@ -347,77 +349,6 @@ module _ (m slots : List ℕ) {j : Judged} (p : Passes m slots j) where
 
 -- ---- what the functions answer, case by case
 
-module _ {s : CallState} where
-  pub masked_shown : s ≡ Shown → false ≡ masked_by s
-  unfolding masked_by
-  masked_shown e = rw e
-
-  pub masked_hidden : s ≡ Hidden → true ≡ masked_by s
-  unfolding masked_by
-  masked_hidden e = rw e
-
-  pub masked_ending : s ≡ Ending → true ≡ masked_by s
-  unfolding masked_by
-  masked_ending e = rw e
-
-  pub masked_new : {k : ℕ} → s ≡ New k → true ≡ masked_by s
-  unfolding masked_by
-  masked_new e = rw e
-
-  pub masked_full : s ≡ TooMany → true ≡ masked_by s
-  unfolding masked_by
-  masked_full e = rw e
-
-  pub full_shown : s ≡ Shown → false ≡ overfull s
-  unfolding overfull
-  full_shown e = rw e
-
-  pub full_hidden : s ≡ Hidden → false ≡ overfull s
-  unfolding overfull
-  full_hidden e = rw e
-
-  pub full_ending : s ≡ Ending → false ≡ overfull s
-  unfolding overfull
-  full_ending e = rw e
-
-  pub full_new : {k : ℕ} → s ≡ New k → false ≡ overfull s
-  unfolding overfull
-  full_new e = rw e
-
-  pub full_full : s ≡ TooMany → true ≡ overfull s
-  unfolding overfull
-  full_full e = rw e
-
-  module _ (q : Pair) (t : List ℕ) where
-    pub after_shown : s ≡ Shown → t ≡ table_by s q t
-    unfolding table_by
-    after_shown e = rw e
-
-    pub after_hidden : s ≡ Hidden → t ≡ table_by s q t
-    unfolding table_by
-    after_hidden e = rw e
-
-    pub after_ending : s ≡ Ending → {t' : List ℕ} → t' ≡ removed q t → t' ≡ table_by s q t
-    unfolding table_by
-    after_ending e f = rw e f
-
-    pub after_new : {k : ℕ} → s ≡ New k → {t' : List ℕ} → t' ≡ placed k q t → t' ≡ table_by s q t
-    unfolding table_by
-    after_new e f = rw e f
-
-    pub after_full : s ≡ TooMany → t ≡ table_by s q t
-    unfolding table_by
-    after_full e = rw e
-
-module _ {k : ℕ} where
-  pub is_new : k < 32 → New k ≡ new_state k
-  unfolding new_state
-  is_new l = rw (lt-ltb k 32 l)
-
-  pub is_full_lem : 32 ≤ k → TooMany ≡ new_state k
-  unfolding new_state
-  is_full_lem l = rw (le-ltb k 32 l)
-
 module _ (m : List ℕ) {b : Bool} {v : List ℕ} (ev : v ≡ take 4 m) (e : b ≡ same (text "BYE ") v) where
   pub is_bye : b ≡ true → Ending ≡ known_state m
   unfolding known_state
@@ -427,72 +358,64 @@ module _ (m : List ℕ) {b : Bool} {v : List ℕ} (ev : v ≡ take 4 m) (e : b �
   unfolding known_state
   is_other_lem y = let z : same (text "BYE ") (take 4 m) ≡ false = rw (← ev) (sym e ∙ y) in rw z
 
-module _ (m slots : List ℕ) (count : ℕ) {s : Slot} where
-  pub id_is : s ≡ first_slot 5 slots count 0 → {v : List ℕ} → v ≡ take s.len (drop s.start m) → v ≡ call_id_in m slots count
+module _ (m slots : List ℕ) (count : ℕ) where
+  pub id_is : {s : Slot} → s ≡ first_slot 5 slots count 0 → {v : List ℕ} → v ≡ take s.len (drop s.start m) → v ≡ call_id_in m slots count
   unfolding call_id_in
   id_is e f = f ∙ rw e
 
-  pub tag_is : s ≡ first_slot 3 slots count 0 → {v : List ℕ} → v ≡ take s.len (drop s.start m) → (tag : Span) → {k : ℕ}
-      → k ≡ cond s.folded (unfolded_at tag.start 0 v) tag.start → {w : List ℕ} → w ≡ take tag.len (drop k v)
-      → w ≡ tag_in m slots count tag
+  pub tag_is : {s : Slot} → s ≡ first_slot 3 slots count 0 → {v : List ℕ} → v ≡ take s.len (drop s.start m) → (tag : Span) → {w : List ℕ}
+      → w ≡ take tag.len (drop (cond s.folded (unfolded_at tag.start 0 v) tag.start) v) → w ≡ tag_in m slots count tag
   unfolding tag_in
-  tag_is e f tag g h = h ∙ rw (g, f, e)
+  tag_is e f tag h = h ∙ rw (f, e)
 
-module _ (m slots : List ℕ) (count : ℕ) (span : Span) {id tag : List ℕ} (ei : id ≡ call_id_in m slots count) (et : tag ≡ tag_in m slots count span) where
-  pub forgets : (t : List ℕ) {t' : List ℕ} → t' ≡ removed (pair_of id tag) t → t' ≡ removed (pair_in m slots count span) t
-  forgets t f = f ∙ rw (ei, et)
+module _ (m slots : List ℕ) (count : ℕ) (span : Span) (withheld : Bool) (t : List ℕ) {b : Bool}
+    (e : b ≡ is_held (pair_in m slots count span) t) where
+  pub is_known : b ≡ true → {s : CallState} → s ≡ known_state m → Ok s ≡ state_in m slots count span withheld t
+  unfolding state_in
+  is_known y f = let z : is_held (pair_in m slots count span) t ≡ true = sym e ∙ y in rw (z, f)
 
-  pub enters : fits (pair_in m slots count span) ≡ true → (k : ℕ) (t : List ℕ) {t' : List ℕ}
-      → t' ≡ cond (fits (pair_of id tag)) (placed k (pair_of id tag) t) t → t' ≡ placed k (pair_in m slots count span) t
-  enters p k t f = f ∙ rw (ei, et, p)
+  module _ (n : b ≡ false) where
+    not_held : is_held (pair_in m slots count span) t ≡ false
+    not_held = sym e ∙ n
 
-  module _ (withheld : Bool) (t : List ℕ) {b : Bool} (e : b ≡ is_held (pair_of id tag) t) where
-    pub is_known : b ≡ true → {s : CallState} → s ≡ known_state m → s ≡ state_in m slots count span withheld t
+    pub is_shown : withheld ≡ false → Ok Shown ≡ state_in m slots count span withheld t
     unfolding state_in
-    is_known y f = let z : is_held (pair_in m slots count span) t ≡ true = rw (← ei, ← et) (sym e ∙ y) in f ∙ rw z
+    is_shown w = rw (not_held, w)
 
-    module _ (n : b ≡ false) where
-      not_held : is_held (pair_in m slots count span) t ≡ false
-      not_held = rw (← ei, ← et) (sym e ∙ n)
+    module _ (w : withheld ≡ true) where
+      pub is_new : {k : ℕ} → k ≡ new_place t → k < 32 → Ok (New k) ≡ state_in m slots count span withheld t
+      unfolding state_in new_state
+      is_new q l = rw (not_held, w, ← q, lt-ltb _ 32 l)
 
-      pub is_withheld : withheld ≡ true → {k : ℕ} → k ≡ new_place t → {s : CallState} → s ≡ new_state k → s ≡ state_in m slots count span withheld t
-      unfolding state_in
-      is_withheld w q f = f ∙ rw (not_held, w, q)
+      pub is_full_lem : 32 ≡ new_place t → Err too_many ≡ state_in m slots count span withheld t
+      unfolding state_in new_state
+      is_full_lem q = rw (not_held, w, ← q)
 
-      pub is_shown : withheld ≡ false → Shown ≡ state_in m slots count span withheld t
-      unfolding state_in
-      is_shown w = rw (not_held, w)
+module _ (m slots : List ℕ) (j : Judged) (t : List ℕ) where
+  pub on_side_0 : {side : Side} → side ≡ Trusted → Ok Shown ≡ state_for m (side_number side) slots j t
+  unfolding state_for asked
+  on_side_0 e = rw e
 
-module _ (side before : ℕ) where
-  pub on_side_0 : (side ≡ 1 → ⊥) → false ≡ asked side before
-  unfolding asked
-  on_side_0 n = rw (ne_eqb side 1 n)
+  module _ {side : Side} (one : side ≡ Untrusted) where
+    pub of_response : j.before ≤ 0 → Ok Shown ≡ state_for m (side_number side) slots j t
+    unfolding state_for asked
+    of_response l = rw (one, eq-eqb j.before 0 (omega arith))
 
-  pub of_response : side ≡ 1 → before < 1 → false ≡ asked side before
-  unfolding asked
-  of_response y l = rw (y, eq-eqb before 0 (omega arith))
+    pub of_request : 0 < j.before → {s : Result CallState Refusal} → s ≡ state_in m slots j.count j.tag j.withheld t
+        → s ≡ state_for m (side_number side) slots j t
+    unfolding state_for asked
+    of_request l f = rw (one, ne_eqb j.before 0 (λ z. omega arith)) f
 
-  pub of_request : side ≡ 1 → 1 ≤ before → true ≡ asked side before
-  unfolding asked
-  of_request y l = rw (y, ne_eqb before 0 (λ z. omega arith))
-
-module _ (m slots : List ℕ) (side : ℕ) (j : Judged) (t : List ℕ) {b : Bool} (e : b ≡ asked side j.before) where
-  pub not_asked : not b ≡ true → Shown ≡ state_for m side slots j t
-  unfolding state_for
-  not_asked n = let z : asked side j.before ≡ false = sym e ∙ not-true b n in rw z
-
-  pub is_asked : not b ≡ false → {s : CallState} → s ≡ state_in m slots j.count j.tag j.withheld t → s ≡ state_for m side slots j t
-  unfolding state_for
-  is_asked y f = let z : asked side j.before ≡ true = sym e ∙ not-false b y in f ∙ rw z
-
--- the only state that is not masked leaves the table
-shown_stays : (s : CallState) (q : Pair) (t : List ℕ) → masked_by s ≡ false → t ≡ table_by s q t
-unfolding masked_by table_by
-shown_stays Shown q t e = refl
-shown_stays Hidden q t e = never (cc)
-shown_stays Ending q t e = never (cc)
-shown_stays (New k) q t e = never (cc)
-shown_stays TooMany q t e = never (cc)
-
-pub not_masked : (s : CallState) (q : Pair) (t : List ℕ) {b : Bool} → b ≡ masked_by s → not b ≡ true → t ≡ table_by s q t
-not_masked s q t {b} e n = shown_stays s q t (sym e ∙ not-true b n)
+-- the one refusal
+pub too_many_alone : (m slots : List ℕ) (side : ℕ) (j : Judged) (t : List ℕ) {r : Refusal} → Err r ≡ state_for m side slots j t → r.reason ≤ 18
+unfolding state_for state_in new_state
+too_many_alone m slots side j t {r} e =
+    go (asked side j.before) (is_held (pair_in m slots j.count j.tag) t) j.withheld (ltb (new_place t) 32) e
+  where
+    go : (a h w l : Bool) → Err r ≡ cond a (cond h (Ok (known_state m)) (cond w (cond l (Ok (New (new_place t))) (Err too_many)) (Ok Shown))) (Ok Shown)
+        → r.reason ≤ 18
+    go true true w l e = never (cc)
+    go true false true true e = never (cc)
+    go true false true false e = let z : r ≡ too_many = cc in rw z (omega arith)
+    go true false false l e = never (cc)
+    go false h w l e = never (cc)

@@ -1,17 +1,12 @@
 -- A text is copied word by word: the first j bytes are put, and a word is put after them, or over their end.
 use mathlib.Core.Path.{◌≡◌, sym, ap, ◌∙◌}
-use mathlib.Core.List.{List, ◌∷◌, ◌++◌}
-use Prim.Native.Nat.{ℕ, suc, ◌+◌, ◌-◌, ◌≤◌, ◌<◌}
+use mathlib.Core.List.{List, ◌++◌}
+use Prim.Native.Nat.{ℕ, ◌+◌, ◌-◌, ◌≤◌, ◌<◌}
 use native.Mathlib.Omega.{arith}
-use lib.ListN.{length, take, drop, get_or, length-drop}
+use lib.ListN.{length, take, drop, length-drop}
 use lib.Seq.{length-take-le, take_all, take-take, take-add}
-use Rattle.octets.proofs.Places.{drop1}
 use Rattle.emit.specs.Put.{put_at, Wrote}
 use Rattle.emit.proofs.Laws.{next_room, put_nil, put_over, length_put}
-
--- a word, byte by byte
-pub byte_more : (s : List ℕ) (n k j : ℕ) {x : List ℕ} → k < length s → j ≡ k + 1 → take n (drop j s) ≡ x → take (suc n) (drop k s) ≡ get_or s k 0 ∷ x
-byte_more s n k j h z e = rw (drop1 s k h, ← z) (ap (λ (l : List ℕ). get_or s k 0 ∷ l) e)
 
 pub none_put : (d : List ℕ) (at : ℕ) (s : List ℕ) → d ≡ put_at d at (take 0 s)
 none_put d at s = sym (put_nil d at)
@@ -29,15 +24,22 @@ module _ (size : ℕ) (d : List ℕ) (at : ℕ) (s : List ℕ) (h : at + length 
         let f : take m (take j s) ++ w ≡ take (m + size) s = rw (take-take m j s p, a) (sym (take-add m size s)) in
         x.holds ∙ rw (e, ← f) (put_over d at (take j s) m w (omega arith) (omega (arith, width)) (omega (arith, width)))
 
-  module _ {last : ℕ} (z : last ≡ length s - size) (j : ℕ) (o : List ℕ) (e : o ≡ put_at d at (take j s)) {w : List ℕ} {r : ℕ} {o' : List ℕ} where
-    pub word_more : {k : ℕ} → j < last → w ≡ take size (drop j s) → Wrote o (at + j) w r o' → k ≡ j + size → o' ≡ put_at d at (take k s)
-    word_more i a x y = rw y (added j a (omega arith) j o e (omega arith) (omega arith) x)
+  -- the size bytes w at the front of what is left from the place m on
+  front : (m : ℕ) {w : List ℕ} → w ≡ take size (take (length s - m) (drop m s)) → w ≡ take size (drop m s)
+  front m a = a ∙ ap (take size) (take_all (length s - m) (drop m s) (rw length-drop (omega arith)))
 
-    pub word_last : size ≤ length s → j ≤ length s → last ≤ j → w ≡ take size (drop last s) → Wrote o (at + last) w r o' → Wrote d at s r o'
+  module _ (j : ℕ) (o : List ℕ) (e : o ≡ put_at d at (take j s)) {w : List ℕ} {r : ℕ} {o' : List ℕ} where
+    pub word_more : {k : ℕ} → j < length s - size → w ≡ take size (take (length s - j) (drop j s)) → Wrote o (at + j) w r o' → k ≡ j + size
+        → o' ≡ put_at d at (take k s)
+    word_more i a x y = rw y (added j (front j a) (omega arith) j o e (omega arith) (omega arith) x)
+
+    pub word_last : size ≤ length s → j ≤ length s → length s - size ≤ j → w ≡ take size (take (length s - (length s - size)) (drop (length s - size) s))
+        → Wrote o (at + (length s - size)) w r o' → Wrote d at s r o'
     word_last g l i a x =
-        let n : length w ≡ size = width last a (omega arith) in
+        let last : ℕ = length s - size in
+        let n : length w ≡ size = width last (front last a) (omega arith) in
         let y : length o ≡ length d = ap length e ∙ length_put d at (take j s) in
         record {
           next = omega (arith, x.next, next_room o (at + last) w (omega arith), next_room d at s h);
-          holds = added last a (omega arith) j o e i (omega arith) x ∙ rw (take_all (last + size) s (omega arith));
+          holds = added last (front last a) (omega arith) j o e i (omega arith) x ∙ rw (take_all (last + size) s (omega arith));
         }

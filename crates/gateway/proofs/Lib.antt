@@ -5,3 +5,4 @@ pub mod Starts
 pub mod CallStates
 pub mod Top
 pub mod Callers
+pub mod Passing

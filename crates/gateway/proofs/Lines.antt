@@ -23,7 +23,7 @@ use Rattle.lines.specs.Index.{slot_at}
 use Rattle.judgement.specs.Sets.{has}
 use Rattle.judgement.specs.Entries.{value_at, entry_at, entries_from}
 use Rattle.judgement.specs.Judges.{Tells, Told, also}
-use Rattle.gateway.specs.declared.Sending.{Sending}
+use Rattle.gateway.specs.Sending.{Sending}
 use Rattle.gateway.specs.Sent.{Goes}
 
 pub anonymous_length : length anonymous ≡ 50

@@ -3,3 +3,4 @@ pub mod Sending
 pub mod Sent
 pub mod Callers
 pub mod CallStates
+pub mod Accepted

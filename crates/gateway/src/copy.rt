@@ -1,95 +1,50 @@
-// Copies into a buffer that has room: before the first byte goes out it is known that all of them fit.
-ghost use Rattle.std.specs.Prelude.{◌≡◌, ◌+◌, ◌≤◌, length, take, drop};
+// Copies into a buffer that has room: before the first byte goes out it is known that all of them fit. Buffer and place go along by hand: C lends
+// the buffer, and a text of its own (`emit::Text`) would be copied into it once more.
+ghost use Rattle.std.specs.Prelude.{◌≡◌, ◌+◌, ◌≤◌, length, take};
 ghost use Rattle.emit.specs.Put.{Wrote};
 
-// Copies s byte by byte to the place, and returns the place after it. A text that stands in the code is written as numbers.
-pub(crate) fn few(out: &mut [u8], at: usize, s: &[u8]) -> usize
+// Copies s byte by byte to the place, and returns the place after it. A text that stands in the code is written as numbers. No `copy_from_slice`:
+// it looks first whether the two overlap, and a screening takes up to 10% more instructions (18% where words are copied so).
+pub(crate) fn put(out: &mut [u8], at: usize, s: &[u8]) -> usize
     requires { at + length s.now ≤ length out.old }
     ensures { Wrote out.old at s.now result out.new }
 {
-    let mut j = 0;
-    while j < s.len() {
-        out[at + j] = s[j];
-        j += 1;
+    for (j, b) in s.iter().enumerate() {
+        out[at + j] = *b;
     }
-    at + j
+    at + s.len()
 }
 
-// The eight, or sixteen, bytes from a place on.
-fn eight(s: &[u8], k: usize) -> [u8; 8]
-    requires { k + 8 ≤ length s.now }
-    ensures { result ≡ take 8 (drop k s.now) }
+// The N bytes at the front of a text.
+fn word<const N: usize>(s: &[u8]) -> [u8; N]
+    requires { N ≤ length s.now }
+    ensures { result ≡ take N s.now }
 {
-    [
-        s[k],
-        s[k + 1],
-        s[k + 2],
-        s[k + 3],
-        s[k + 4],
-        s[k + 5],
-        s[k + 6],
-        s[k + 7],
-    ]
+    *s.first_chunk::<N>().unwrap()
 }
 
-fn sixteen(s: &[u8], k: usize) -> [u8; 16]
-    requires { k + 16 ≤ length s.now }
-    ensures { result ≡ take 16 (drop k s.now) }
-{
-    [
-        s[k],
-        s[k + 1],
-        s[k + 2],
-        s[k + 3],
-        s[k + 4],
-        s[k + 5],
-        s[k + 6],
-        s[k + 7],
-        s[k + 8],
-        s[k + 9],
-        s[k + 10],
-        s[k + 11],
-        s[k + 12],
-        s[k + 13],
-        s[k + 14],
-        s[k + 15],
-    ]
-}
-
-// As `few`, eight bytes at once: read before they are written, they move as one word. The last eight may overlap those before them.
-pub(crate) fn many(out: &mut [u8], at: usize, s: &[u8]) -> usize
-    requires { at + length s.now ≤ length out.old }
+// As `put`, N bytes at once: read before they are written, they move as one word. The last N may overlap those before them.
+fn words<const N: usize>(out: &mut [u8], at: usize, s: &[u8]) -> usize
+    requires { (1 ≤ N) × (N ≤ length s.now) × (at + length s.now ≤ length out.old) }
     ensures { Wrote out.old at s.now result out.new }
 {
-    if s.len() < 8 {
-        return few(out, at, s);
+    let last = s.len() - N;
+    for j in (0..last).step_by(N) {
+        put(out, at + j, &word::<N>(&s[j..]));
     }
-    let last = s.len() - 8;
-    let mut j = 0;
-    while j < last {
-        let word = eight(s, j);
-        few(out, at + j, &word);
-        j += 8;
-    }
-    let word = eight(s, last);
-    few(out, at + last, &word)
+    put(out, at + last, &word::<N>(&s[last..]))
 }
 
-// The same, sixteen bytes at once: of a field's value, which is mostly longer than that.
+// As `put`, of a text whose length the code does not say, mostly a field's value.
 pub(crate) fn value(out: &mut [u8], at: usize, s: &[u8]) -> usize
     requires { at + length s.now ≤ length out.old }
     ensures { Wrote out.old at s.now result out.new }
 {
-    if s.len() < 16 {
-        return many(out, at, s);
+    if 16 <= s.len() {
+        return words::<16>(out, at, s);
     }
-    let last = s.len() - 16;
-    let mut j = 0;
-    while j < last {
-        let word = sixteen(s, j);
-        few(out, at + j, &word);
-        j += 16;
+    if 8 <= s.len() {
+        return words::<8>(out, at, s);
     }
-    let word = sixteen(s, last);
-    few(out, at + last, &word)
+    put(out, at, s)
 }

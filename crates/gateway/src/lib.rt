@@ -1,216 +1,131 @@
 // The screen: judges a request or a response, and writes the outgoing message into the lent buffer.
 #![tactic(auto)]
 
-ghost use Rattle.std.specs.Prelude.{◌≡◌, true, false, cond, ◌&&◌, ◌++◌, ◌+◌, ◌≤◌, ◌<◌, leb, length, take, drop};
-ghost use Rattle.sip.specs.Lines.{crlf};
-ghost use Rattle.sip.specs.Output.{field_lines};
-ghost use Rattle.sip.specs.Refusals.{refusal};
-ghost use Rattle.sip.specs.Readings.{no_calling, calling_part, calling_number};
+ghost use Rattle.std.specs.Prelude.{◌≡◌, true, ◌≤◌, cond};
+ghost use Rattle.sip.specs.Readings.{calling_part, calling_number};
 ghost use Rattle.sip.specs.Screen.{answer_of, calls_of, verdict, screened};
 ghost use Rattle.sip.specs.Values.{is_global};
-ghost use Rattle.emit.specs.Put.{Wrote};
-ghost use Rattle.lines.specs.Index.{index};
-ghost use Rattle.judgement.specs.Entries.{Within, entries_from};
-ghost use Rattle.judgement.specs.Judges.{Told, Passes};
-ghost use Rattle.judgement.specs.Sets.{has};
+ghost use Rattle.gateway.specs.Accepted.{delivered_by};
 ghost use Rattle.gateway.specs.Callers.{Calling};
-ghost use Rattle.gateway.specs.CallStates.{pair_in, masked_by, table_by, delivered};
-ghost use Rattle.gateway.specs.Sending.{sending_of};
-ghost use Rattle.gateway.specs.Sent.{sent_start, sent_message};
-ghost use Rattle.gateway.specs.Verdicts.{numbers_of};
+ghost use Rattle.gateway.specs.CallStates.{Sides};
+ghost use Rattle.gateway.specs.Verdicts.{numbers_of, numbers_by, reason_by};
 
-use judgement::{Judged, Refusal};
+use judgement::Refusal;
+use message::Accepted;
+use remembered::CallState;
+use sip::Span;
 
 mod copy;
+mod message;
 mod names;
 mod output;
 mod remembered;
 
-// The verdict is a choice: accepted with its length, or refused with those numbers.
+// The verdict is a choice: accepted with its length, or refused with those numbers. The form is a rule of the project
+// (docs/DECISIONS.md, the forms that are named): an enum of these two; inside, a screening is a `Result`.
 #[derive(Clone, Copy)]
 pub enum Verdict {
     Accepted(usize),
     Refused(Refusal),
 }
 
-// What the table of calls says of an accepted message. Shown: nothing, and it goes out as it is. Hidden: its pair is held. Ending: its pair is
-// held, and it is a BYE. New: its caller is withheld and its pair is not held; it is entered at this place. TooMany: there is none (reason 18).
+impl From<Result<usize, Refusal>> for Verdict {
+    ghost from_gives = { λ r v. numbers_of v ≡ numbers_by r };
+
+    fn from(r: Result<usize, Refusal>) -> Verdict {
+        match r {
+            Ok(len) => Verdict::Accepted(len),
+            Err(refusal) => Verdict::Refused(refusal),
+        }
+    }
+}
+
+// The side that a message goes to: 0 is the trusted one, and 1 the untrusted one.
 #[derive(Clone, Copy)]
-pub(crate) enum CallState {
-    Shown,
-    Hidden,
-    Ending,
-    New(usize),
-    TooMany,
+pub(crate) enum Side {
+    Trusted,
+    Untrusted,
 }
 
-// What of the outgoing message the kept values do not say by themselves: whether the caller is masked, what Max-Forwards says, the length
-// of the body, and where the tag stands in From's value.
-#[derive(Clone, Copy)]
-pub(crate) struct Sending {
-    pub masked: bool,
-    pub hops: usize,
-    pub body: usize,
-    pub tag: sip::Span,
-}
+// Reason 1: there is no such side.
+const NO_SIDE: Refusal = Refusal {
+    reason: 1,
+    reply: 0,
+    detail: 0,
+    missing: 0,
+};
 
-fn sending_of(j: Judged, masked: bool) -> Sending
-    ensures { result ≡ sending_of masked j }
-{
-    let tag = j.tag;
-    Sending {
-        masked,
-        hops: j.hops,
-        body: j.body,
-        tag,
+impl TryFrom<u64> for Side {
+    type Error = Refusal;
+
+    ghost try_from_gives = { Sides };
+
+    fn try_from(number: u64) -> Result<Side, Refusal> {
+        match number {
+            0 => Ok(Side::Trusted),
+            1 => Ok(Side::Untrusted),
+            _ => Err(NO_SIDE),
+        }
     }
 }
 
-// The start line of `line` bytes, of which `before` stand before the version, the lines of the fields that go out, and the body, which is
-// at `rest`.
-fn put_message(
-    out: &mut [u8],
-    message: &[u8],
-    before: usize,
-    line: usize,
-    rest: usize,
-    sent: u32,
-    slots: &[u16; 384],
-    count: usize,
-    w: Sending,
-) -> usize
-    requires { Told w.hops w.tag (entries_from sent message.now slots.now count 0) × ((w.masked && has sent 15) ≡ false)
-        × Within message.now slots.now
-        × (before + 7 ≤ line) × (line ≤ length message.now)
-        × (line
-        + (length (field_lines w.masked w.body (entries_from sent message.now slots.now count 0))
-        + (2 + length (take w.body (drop rest message.now)))) ≤ length out.old) }
-    ensures { Wrote out.old 0
-        (sent_start message.now before line
-        ++ (field_lines w.masked w.body (entries_from sent message.now slots.now count 0)
-        ++ (crlf ++ take w.body (drop rest message.now))))
-        result out.new }
-{
-    let fields = output::put_start(out, message, before, line);
-    let end = output::put_lines(out, fields, message, sent, slots, count, w);
-    output::put_body(out, end, message, rest, w.body)
-}
-
-// The number of slots. That it is at most 96 is said for the compiler, which then drops the test for a slot past the 96 in each turn.
-fn bounded(count: usize) -> usize
-    requires { count ≤ 96 }
-    ensures { result ≡ count }
-{
-    if 96 < count {
-        return 96;
-    }
-    count
-}
-
-// The outgoing message at the front of the buffer, which has room for it.
-fn write(out: &mut [u8], message: &[u8], slots: &[u16; 384], j: Judged, masked: bool) -> usize
-    requires { Passes message.now slots.now j × (length (sent_message message.now slots.now j masked) ≤ length out.old) }
-    ensures { Wrote out.old 0 (sent_message message.now slots.now j masked) result out.new }
-{
-    let w = sending_of(j, masked);
-    let sent = output::sent_set(j.kept, masked);
-    let count = bounded(j.count);
-    put_message(
-        out, message, j.before, j.line, j.rest, sent, slots, count, w,
-    )
-}
-
-// The length of the outgoing message.
-fn sent_len(message: &[u8], slots: &[u16; 384], j: Judged, masked: bool) -> usize
-    requires { Passes message.now slots.now j }
-    ensures { result ≡ length (sent_message message.now slots.now j masked) }
-{
-    let w = sending_of(j, masked);
-    let sent = output::sent_set(j.kept, masked);
-    let fields = output::lines_len(message, sent, slots, j.count, w);
-    j.line + fields + 2 + j.body
-}
-
-// The length of the outgoing message where the room is too small for it, else 0. It is less than 1,024 bytes longer than the message, so
-// that it is measured only where the room is tight.
-fn needed(message: &[u8], slots: &[u16; 384], j: Judged, masked: bool, room: usize) -> usize
-    requires { Passes message.now slots.now j }
-    ensures { result
-        ≡ cond (leb (length (sent_message message.now slots.now j masked)) room) 0
-        (length (sent_message message.now slots.now j masked)) }
-{
-    if message.len() + 1024 <= room {
-        return 0;
-    }
-    let len = sent_len(message, slots, j, masked);
-    if len <= room {
-        return 0;
-    }
-    len
-}
-
-// Reason 16. To an ACK and to a response nothing is replied.
+// Reason 16: the outgoing message needs so many bytes. To an ACK and to a response nothing is replied.
 fn too_long(silent: bool, needed: usize) -> Refusal
     ensures { (result.reason ≡ 16) × (result.reply ≡ cond silent 0 500) × (result.detail ≡ needed) × (result.missing ≡ 0) }
 {
-    let detail = needed as u64;
-    if silent {
-        return Refusal {
-            reason: 16,
-            reply: 0,
-            detail,
-            missing: 0,
-        };
-    }
     Refusal {
         reason: 16,
-        reply: 500,
-        detail,
+        reply: if silent { 0 } else { 500 },
+        detail: needed as u64,
         missing: 0,
     }
 }
 
-// Reason 16, or the outgoing message, where no other reason refuses, and the table after it.
-fn deliver(
+impl Accepted<'_> {
+    // Reason 16, or the outgoing message, where no other reason refuses, and the table after it. Not inline: in a smaller `screening` the compiler
+    // sees that judging clears the slots, and does not clear them before too (63 instructions).
+    #[inline(never)]
+    fn deliver(
+        &self,
+        state: CallState,
+        table: &mut [u8; 6208],
+        out: &mut [u8],
+    ) -> Result<usize, Refusal>
+        ensures { (numbers_by result ≡ (delivered_by state self.now out.old table.old).answer)
+            × (out.new ≡ (delivered_by state self.now out.old table.old).buffer)
+            × (table.new ≡ (delivered_by state self.now out.old table.old).table) }
+    {
+        let outgoing = self.outgoing(state.is_masked());
+        if let Some(len) = outgoing.lack(out.len()) {
+            return Err(too_long(self.judged.silent, len));
+        }
+        // There is room, so that nothing refuses any more. The table comes first: its pair need not be kept while the message is written.
+        self.change(state, table);
+        Ok(outgoing.write(out))
+    }
+}
+
+// Screens a request or a response: its length where it is accepted.
+fn screening(
     message: &[u8],
+    side: u64,
     table: &mut [u8; 6208],
     out: &mut [u8],
-    slots: &[u16; 384],
-    j: Judged,
-    state: CallState,
-) -> Verdict
-    requires { Passes message.now slots.now j }
-    ensures { (numbers_of result
-        ≡ (delivered j.silent (sent_message message.now slots.now j (masked_by state))
-        (table_by state (pair_in message.now slots.now j.count j.tag) table.old) out.old table.old).answer)
-        × (out.new
-        ≡ (delivered j.silent (sent_message message.now slots.now j (masked_by state))
-        (table_by state (pair_in message.now slots.now j.count j.tag) table.old) out.old table.old).buffer)
-        × (table.new
-        ≡ (delivered j.silent (sent_message message.now slots.now j (masked_by state))
-        (table_by state (pair_in message.now slots.now j.count j.tag) table.old) out.old table.old).table) }
+) -> Result<usize, Refusal>
+    ensures { (numbers_by result ≡ (screened message.now side table.old out.old).answer)
+        × (out.new ≡ (screened message.now side table.old out.old).buffer)
+        × (table.new ≡ (screened message.now side table.old out.old).table) }
 {
-    let masked = remembered::is_masked(state);
-    let lack = needed(message, slots, j, masked, out.len());
-    if lack != 0 {
-        return Verdict::Refused(too_long(j.silent, lack));
-    }
-    // There is room, so that nothing refuses any more. The table comes first: its pair need not be kept while the message is written.
-    let tag = j.tag;
-    remembered::remember(message, table, slots, j.count, tag, state);
-    Verdict::Accepted(write(out, message, slots, j, masked))
-}
-
-// A refusal that says no more than its reason and its reply.
-fn refused(reason: u64, reply: u64) -> Verdict
-    ensures { numbers_of result ≡ refusal reason reply 0 0 }
-{
-    Verdict::Refused(Refusal {
-        reason,
-        reply,
-        detail: 0,
-        missing: 0,
-    })
+    let mut slots = [0u16; 384];
+    let to = Side::try_from(side)?;
+    let judged = judgement::judge(message, &mut slots)?;
+    let accepted = Accepted {
+        message,
+        slots: &slots,
+        judged,
+    };
+    let state = accepted.state_for(to, table)?;
+    accepted.deliver(state, table, out)
 }
 
 // Screens a request or a response that goes to a peer on a side, with the table of the calls that are remembered: accepts it, writes the
@@ -220,114 +135,93 @@ pub fn screen(message: &[u8], side: u64, table: &mut [u8; 6208], out: &mut [u8])
         × (out.new ≡ (screened message.now side table.old out.old).buffer)
         × (table.new ≡ (screened message.now side table.old out.old).table) }
 {
-    if 1 < side {
-        return refused(1, 0);
-    }
-    let mut slots = [0u16; 384];
-    let j = judgement::judge(message, &mut slots);
-    let r = j.refusal;
-    if r.reason != 0 {
-        return Verdict::Refused(r);
-    }
-    let state = remembered::state_for(message, side, table, &slots, j);
-    if remembered::is_overfull(state) {
-        return refused(18, 503);
-    }
-    deliver(message, table, out, &slots, j, state)
+    Verdict::from(screening(message, side, table, out))
 }
 
-// The reason of a screening with room enough, 0 where it accepts, and the table after it. No outgoing message is written.
+// Screens with room enough, and leaves the table as it is after it. No outgoing message is written.
+fn remembering(message: &[u8], side: u64, table: &mut [u8; 6208]) -> Result<(), Refusal>
+    ensures { (reason_by result ≡ (answer_of (verdict message.now side table.old)).reason) × (reason_by result ≤ 18)
+        × (table.new ≡ calls_of table.old (verdict message.now side table.old)) }
+{
+    let mut slots = [0u16; 384];
+    let to = Side::try_from(side)?;
+    let judged = judgement::judge(message, &mut slots)?;
+    let accepted = Accepted {
+        message,
+        slots: &slots,
+        judged,
+    };
+    let state = accepted.state_for(to, table)?;
+    accepted.change(state, table);
+    Ok(())
+}
+
+// The reason of a screening with room enough, 0 where it accepts, and the table after it. A number, since a replay counts by it.
 pub fn reason_with_room(message: &[u8], side: u64, table: &mut [u8; 6208]) -> u64
     ensures { (result ≡ (answer_of (verdict message.now side table.old)).reason) × (result ≤ 18)
         × (table.new ≡ calls_of table.old (verdict message.now side table.old)) }
 {
-    if 1 < side {
-        return 1;
-    }
-    let mut slots = [0u16; 384];
-    let j = judgement::judge(message, &mut slots);
-    let r = j.refusal;
-    if r.reason != 0 {
-        return r.reason;
-    }
-    if !remembered::is_asked(side, j.before) {
-        return 0;
-    }
-    let tag = j.tag;
-    let state = remembered::state_of(message, table, &slots, j.count, tag, j.withheld);
-    if remembered::is_overfull(state) {
-        return 18;
-    }
-    remembered::change(message, table, &slots, j.count, tag, state);
-    0
-}
-
-fn no_calling() -> sip::CallingAt
-    ensures { result ≡ no_calling }
-{
-    sip::CallingAt {
-        from_trunk: false,
-        start: 0,
-        len: 0,
+    match remembering(message, side, table) {
+        Ok(()) => 0,
+        Err(refusal) => refusal.reason,
     }
 }
 
-fn whole_trunk(len: usize) -> sip::CallingAt
-    ensures { result ≡ record { from_trunk = true; start = 0; len = len } }
-{
-    sip::CallingAt {
-        from_trunk: true,
-        start: 0,
-        len,
+// Where a calling number stands: a part of the trunk number, or of the message.
+#[derive(Clone, Copy)]
+pub enum CallingAt {
+    Trunk(Span),
+    Message(Span),
+}
+
+impl Accepted<'_> {
+    // The calling number, where the trunk number is good: the trunk number where no identity is asserted. The judge says in which
+    // P-Asserted-Identity the identity stands that it comes from, and where its number stands in the canonical value; nothing in a number is
+    // folded, so it stands in the message as it is.
+    fn calling(&self, trunk: &[u8]) -> CallingAt
+        requires { is_global trunk.now ≡ true }
+        ensures { Calling self.now.message.now trunk.now (Some result) }
+    {
+        let Some(caller) = self.judged.caller else {
+            return CallingAt::Trunk(Span {
+                start: 0,
+                len: trunk.len(),
+            });
+        };
+        let p = lines::reading_of(self.slots, self.judged.count, 15, caller.field as u64);
+        let value = octets::part(self.message, p.start, p.len);
+        let start = p.start + emit::unfolded_at(value, caller.start);
+        CallingAt::Message(Span {
+            start,
+            len: caller.len,
+        })
     }
 }
 
-// The calling number of an accepted message, where the trunk number is good. The judge says in which P-Asserted-Identity the identity stands
-// that it comes from, and where its number stands in the canonical value; nothing in a number is folded, so it stands in the message as it is.
-fn calling_accepted(message: &[u8], trunk: &[u8], slots: &[u16; 384], j: Judged) -> sip::CallingAt
-    requires { Passes message.now slots.now j
-        × (slots.now ≡ (index message.now).slots)
-        × (j.count ≡ (index message.now).head.count)
-        × (is_global trunk.now ≡ true) }
-    ensures { Calling message.now trunk.now result }
-{
-    let caller = j.caller;
-    if caller.field == 0 {
-        return whole_trunk(trunk.len());
-    }
-    let p = lines::reading_of(slots, j.count, 15, caller.field as u64);
-    let value = octets::part(message, p.start, p.len);
-    let start = p.start + emit::unfolded_at(value, caller.start);
-    sip::CallingAt {
-        from_trunk: false,
-        start,
-        len: caller.len,
-    }
-}
-
-// The calling number, as a part of the message or of the trunk number, within which it lies.
-pub fn calling_at(message: &[u8], trunk: &[u8]) -> sip::CallingAt
+// Where the calling number stands; nowhere where the trunk number is bad or judging refuses the message.
+pub fn calling_at(message: &[u8], trunk: &[u8]) -> Option<CallingAt>
     ensures { Calling message.now trunk.now result }
 {
     if !values::is_global(trunk) {
-        return no_calling();
+        return None;
     }
     let mut slots = [0u16; 384];
-    let j = judgement::judge(message, &mut slots);
-    let r = j.refusal;
-    if r.reason != 0 {
-        return no_calling();
-    }
-    calling_accepted(message, trunk, &slots, j)
+    let judged = judgement::judge(message, &mut slots).ok()?;
+    let accepted = Accepted {
+        message,
+        slots: &slots,
+        judged,
+    };
+    Some(accepted.calling(trunk))
 }
 
 // The calling number itself: that part.
 pub fn calling_number<'a>(message: &'a [u8], trunk: &'a [u8]) -> &'a [u8]
     ensures { (result.now ≡ calling_part message.now trunk.now) × (result.now ≡ calling_number message.now trunk.now) }
 {
-    let p = calling_at(message, trunk);
-    if p.from_trunk {
-        return octets::part(trunk, p.start, p.len);
+    match calling_at(message, trunk) {
+        None => b"",
+        Some(CallingAt::Trunk(p)) => octets::part(trunk, p.start, p.len),
+        Some(CallingAt::Message(p)) => octets::part(message, p.start, p.len),
     }
-    octets::part(message, p.start, p.len)
 }

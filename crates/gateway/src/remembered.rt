@@ -1,190 +1,120 @@
 // What the table of calls says of an accepted message, and what the message leaves in it.
-ghost use Rattle.std.specs.Prelude.{◌≡◌, true};
-ghost use Rattle.calls.specs.Places.{fits};
-ghost use Rattle.gateway.specs.CallStates.{call_id_in, tag_in, pair_in, asked, known_state, new_state, state_in, state_for, masked_by, overfull, table_by};
-ghost use Rattle.sip.specs.Calls.{placed, removed};
+ghost use Rattle.std.specs.Prelude.{◌≡◌};
+ghost use Rattle.calls.specs.Places.{said};
+ghost use Rattle.gateway.specs.CallStates.{masked_by};
 
-use crate::{CallState, output};
-use judgement::Judged;
-use sip::Span;
+use crate::message::Accepted;
+use crate::{Side, output};
+use calls::Pair;
+use judgement::Refusal;
 
-// The Call-ID. Nothing in it is folded, so that it stands in the message as it is.
-fn call_id<'a>(message: &'a [u8], slots: &[u16; 384], count: usize) -> &'a [u8]
-    ensures { result.now ≡ call_id_in message.now slots.now count }
-{
-    let s = judgement::first_slot(slots, count, 5);
-    octets::part(message, s.start, s.len)
+// What the table of calls says of an accepted message. Shown: nothing, and it goes out as it is. Hidden: its pair is held. Ending: its pair is
+// held, and it is a BYE. New: its caller is withheld and its pair is not held; it is entered at this place.
+#[derive(Clone, Copy)]
+pub(crate) enum CallState {
+    Shown,
+    Hidden,
+    Ending,
+    New(usize),
 }
 
-// The tag of From, which is this part of its canonical value. Nothing in it is folded either.
-fn from_tag<'a>(message: &'a [u8], slots: &[u16; 384], count: usize, tag: Span) -> &'a [u8]
-    ensures { result.now ≡ tag_in message.now slots.now count tag }
-{
-    let s = judgement::first_slot(slots, count, 3);
-    let v = octets::part(message, s.start, s.len);
-    let start = output::tag_place(v, s.folded, tag.start);
-    octets::part(v, start, tag.len)
-}
-
-// A request whose pair is held: a BYE ends it. A method is followed by a space.
-fn known_call(message: &[u8]) -> CallState
-    ensures { result ≡ known_state message.now }
-{
-    if octets::same(b"BYE ", octets::first(message, 4)) {
-        return CallState::Ending;
-    }
-    CallState::Hidden
-}
-
-// A withheld caller whose pair is not held: this is the place for it.
-fn new_call(place: usize) -> CallState
-    ensures { result ≡ new_state place }
-{
-    if place < 32 {
-        return CallState::New(place);
-    }
-    CallState::TooMany
-}
-
-// The table is asked for a request to side 1. Of a response no byte stands before the version.
-pub(crate) fn is_asked(side: u64, before: usize) -> bool
-    ensures { result ≡ asked side before }
-{
-    if side != 1 {
-        return false;
-    }
-    if before < 1 {
-        return false;
-    }
-    true
-}
-
-// What the table says of a request for which it is asked.
-pub(crate) fn state_of(
-    message: &[u8],
-    table: &[u8; 6208],
-    slots: &[u16; 384],
-    count: usize,
-    span: Span,
-    withheld: bool,
-) -> CallState
-    ensures { result ≡ state_in message.now slots.now count span withheld table.now }
-{
-    let id = call_id(message, slots, count);
-    let tag = from_tag(message, slots, count, span);
-    if calls::is_held(table, id, tag) {
-        return known_call(message);
-    }
-    if withheld {
-        return new_call(calls::new_place(table));
-    }
-    CallState::Shown
-}
-
-// Of any accepted message.
-pub(crate) fn state_for(
-    message: &[u8],
-    side: u64,
-    table: &[u8; 6208],
-    slots: &[u16; 384],
-    j: Judged,
-) -> CallState
-    ensures { result ≡ state_for message.now side slots.now j table.now }
-{
-    if !is_asked(side, j.before) {
-        return CallState::Shown;
-    }
-    let span = j.tag;
-    state_of(message, table, slots, j.count, span, j.withheld)
-}
-
-// The caller is masked.
-pub(crate) fn is_masked(state: CallState) -> bool
-    ensures { result ≡ masked_by state }
-{
-    match state {
-        CallState::Shown => false,
-        CallState::Hidden => true,
-        CallState::Ending => true,
-        CallState::New(_) => true,
-        CallState::TooMany => true,
+impl CallState {
+    // The caller is masked.
+    pub fn is_masked(self) -> bool
+        ensures { result ≡ masked_by self }
+    {
+        !matches!(self, CallState::Shown)
     }
 }
 
-// Reason 18.
-pub(crate) fn is_overfull(state: CallState) -> bool
-    ensures { result ≡ overfull state }
-{
-    match state {
-        CallState::Shown => false,
-        CallState::Hidden => false,
-        CallState::Ending => false,
-        CallState::New(_) => false,
-        CallState::TooMany => true,
+// Reason 18: there is no place for a withheld caller.
+const TOO_MANY: Refusal = Refusal {
+    reason: 18,
+    reply: 503,
+    detail: 0,
+    missing: 0,
+};
+
+impl<'a> Accepted<'a> {
+    ghost use Rattle.gateway.specs.Accepted.{pair_of, known_of, state_of, state_to, changed};
+
+    // The Call-ID. Nothing in it is folded, so that it stands in the message as it is.
+    fn call_id(&self) -> &'a [u8]
+        ensures { result.now ≡ (pair_of self.now).call_id }
+    {
+        match judgement::first_slot(self.slots, self.judged.count, 5) {
+            Some(s) => octets::part(self.message, s.start, s.len),
+            None => b"",
+        }
     }
-}
 
-// Removes the pair.
-fn forget(message: &[u8], table: &mut [u8; 6208], slots: &[u16; 384], count: usize, span: Span)
-    ensures { table.new ≡ removed (pair_in message.now slots.now count span) table.old }
-{
-    let id = call_id(message, slots, count);
-    let tag = from_tag(message, slots, count, span);
-    calls::remove(table, id, tag);
-}
-
-// Enters the pair at a place.
-fn enter(
-    message: &[u8],
-    table: &mut [u8; 6208],
-    slots: &[u16; 384],
-    count: usize,
-    span: Span,
-    place: usize,
-)
-    requires { fits (pair_in message.now slots.now count span) ≡ true }
-    ensures { table.new ≡ placed place (pair_in message.now slots.now count span) table.old }
-{
-    let id = call_id(message, slots, count);
-    let tag = from_tag(message, slots, count, span);
-    calls::place(table, place, id, tag);
-}
-
-// Enters or removes the pair.
-pub(crate) fn change(
-    message: &[u8],
-    table: &mut [u8; 6208],
-    slots: &[u16; 384],
-    count: usize,
-    span: Span,
-    state: CallState,
-)
-    requires { fits (pair_in message.now slots.now count span) ≡ true }
-    ensures { table.new ≡ table_by state (pair_in message.now slots.now count span) table.old }
-{
-    match state {
-        CallState::Shown => {}
-        CallState::Hidden => {}
-        CallState::Ending => forget(message, table, slots, count, span),
-        CallState::New(place) => enter(message, table, slots, count, span, place),
-        CallState::TooMany => {}
+    // The tag of From, which is a part of its canonical value. Nothing in it is folded either.
+    fn from_tag(&self) -> &'a [u8]
+        ensures { result.now ≡ (pair_of self.now).tag }
+    {
+        match judgement::first_slot(self.slots, self.judged.count, 3) {
+            Some(s) => {
+                let v = octets::part(self.message, s.start, s.len);
+                output::tag_of(v, s.folded, self.judged.tag)
+            }
+            None => b"",
+        }
     }
-}
 
-// The table after a message. One that is not masked leaves it as it is.
-pub(crate) fn remember(
-    message: &[u8],
-    table: &mut [u8; 6208],
-    slots: &[u16; 384],
-    count: usize,
-    span: Span,
-    state: CallState,
-)
-    requires { fits (pair_in message.now slots.now count span) ≡ true }
-    ensures { table.new ≡ table_by state (pair_in message.now slots.now count span) table.old }
-{
-    if !is_masked(state) {
-        return;
+    // The pair that names its call.
+    fn pair(&self) -> Pair<'a>
+        ensures { said result ≡ pair_of self.now }
+    {
+        Pair {
+            call_id: self.call_id(),
+            tag: self.from_tag(),
+        }
     }
-    change(message, table, slots, count, span, state);
+
+    // Of a request whose pair is held: a BYE ends it. A method is followed by a space.
+    fn known(&self) -> CallState
+        ensures { result ≡ known_of self.now }
+    {
+        if octets::same(b"BYE ", octets::first(self.message, 4)) {
+            return CallState::Ending;
+        }
+        CallState::Hidden
+    }
+
+    // Of a request for which the table is asked.
+    fn state_in(&self, table: &[u8; 6208]) -> Result<CallState, Refusal>
+        ensures { result ≡ state_of self.now table.now }
+    {
+        if calls::is_held(table, self.pair()) {
+            return Ok(self.known());
+        }
+        if !self.judged.withheld {
+            return Ok(CallState::Shown);
+        }
+        match calls::new_place(table) {
+            Some(place) => Ok(CallState::New(place)),
+            None => Err(TOO_MANY),
+        }
+    }
+
+    // Of any accepted message. The table is asked for a request to the untrusted side; of a response no byte stands before the version.
+    pub fn state_for(&self, side: Side, table: &[u8; 6208]) -> Result<CallState, Refusal>
+        ensures { result ≡ state_to side self.now table.now }
+    {
+        match side {
+            Side::Untrusted if 0 < self.judged.before => self.state_in(table),
+            _ => Ok(CallState::Shown),
+        }
+    }
+
+    // Enters or removes the pair.
+    pub fn change(&self, state: CallState, table: &mut [u8; 6208])
+        ensures { table.new ≡ changed state self.now table.old }
+    {
+        match state {
+            CallState::Shown | CallState::Hidden => {}
+            CallState::Ending => calls::remove(table, self.pair()),
+            CallState::New(place) => calls::place(table, place, self.pair()),
+        }
+    }
 }

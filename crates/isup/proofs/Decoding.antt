@@ -1,53 +1,55 @@
 -- What the steps of decoding answer: the tests in their order, and the number written into its array.
 use mathlib.Core.Path.{◌≡◌, refl, sym, ap, ◌∙◌}
 use mathlib.Core.Bool.{Bool, true, false, false≢true, not, cond, ◌&&◌, ◌||◌, or-false}
-use mathlib.Core.List.{List, [], ◌∷◌, ◌++◌}
-use Prim.Native.Nat.{ℕ, suc, ◌+◌, ◌-◌, ◌*◌, ◌/◌, ◌%◌, ◌≤◌, ◌<◌}
+use mathlib.Core.List.{List, [], ◌∷◌, ◌++◌, append_assoc, append-nil}
+use Prim.Native.Nat.{ℕ, zero, suc, ◌+◌, ◌-◌, ◌*◌, ◌/◌, ◌%◌, ◌≤◌, ◌<◌}
 use native.Mathlib.Omega.{arith}
 use lib.Dec.{leb, ltb, eqb}
-use lib.ListN.{length, take, drop, get_or, set, replicate, length-drop, length-append, length-replicate, drop_of_length-le, get_or-eq_default}
-use lib.Seq.{take_at, paste}
-use borrow.Author.Tests.{le-leb, lt-leb, leb-true, leb-false, le-ltb, lt-ltb, ltb-false, eqb-false, eq-eqb, ne_eqb, eqb-true, not-true, not-false}
+use lib.ListN.{length, drop, get_or, length-drop, length-append}
+use borrow.Author.Tests.{le-leb, lt-leb, leb-true, leb-false, le-ltb, lt-ltb, ltb-false, eqb-false, eq-eqb, ne_eqb, eqb-true}
 use Rattle.octets.specs.Scans.{all}
-use Rattle.octets.proofs.Places.{drop1}
 use Rattle.sip.specs.Values.{is_global}
 use Rattle.sip.proofs.Tests.{and_right}
-use Rattle.emit.specs.Put.{Wrote, Placed}
-use Rattle.emit.proofs.Copies.{copied_next, copied_all}
-use Rattle.emit.proofs.Laws.{put_front, wrote_length}
-use Rattle.emit.proofs.Placing.{placed, and_then}
-use Rattle.isup.specs.declared.Caller.{Caller}
+use Rattle.isup.specs.Answers.{Caller}
 use Rattle.isup.specs.Fields.{is_odd, signal_count, signals, fields_of, filler, filler_is_zero}
-use Rattle.isup.specs.Forward.{is_code, padded}
+use Rattle.isup.specs.Forward.{is_code}
 use Rattle.isup.specs.Backward.{is_cut, is_named, is_digit_code, number_from, no_caller, caller_with, caller_for, decoded}
-use Rattle.isup.specs.Steps.{is_pair, digits, digit_at, caller_held}
-use Rattle.isup.proofs.Codes.{code_read}
+use Rattle.isup.specs.Steps.{is_pair, digits, digit_at}
+use Rattle.isup.specs.declared.fields.Nature.{Nature}
+use Rattle.isup.specs.declared.fields.Nature.TheVariants.{National, International}
+use Rattle.isup.specs.declared.fields.Presentation.{Presentation}
+use Rattle.isup.specs.declared.fields.Presentation.TheVariants.{Allowed, Restricted}
+use Rattle.isup.specs.Views.{nature_number, is_national_nature, presentation_octet, caller_in}
+use Rattle.isup.specs.declared.Caller.{Caller as Found}
+use Rattle.isup.specs.declared.NoCaller.{NoCaller}
+use Rattle.isup.specs.declared.NoCaller.TheVariants.{Field}
+use Rattle.std.specs.List.{list_all}
+use Rattle.std.specs.Prelude.{Result, Ok, Err, IsErr, is_ok, OnOk}
 use Rattle.isup.proofs.Numbers.{global_plus}
-use Rattle.isup.proofs.Signals.{bit_most, digits_length, digits_at, pairs_even, pairs_odd}
-use Rattle.isup.proofs.Encoding.{drop_zeros}
-
-pub octet_past : (s : List ℕ) (i : ℕ) → length s ≤ i → 0 ≡ get_or s i 0
-octet_past s i h = sym (get_or-eq_default s 0 h)
+use Rattle.isup.proofs.Signals.{bit_most, digits_length, pairs_even, pairs_odd}
 
 -- ---- 43
 
 module _ (s : List ℕ) where
-  pub cut_two : length s < 2 → true ≡ is_cut s
+  pub cut_short : length s < 2 → true ≡ is_cut s
   unfolding is_cut
-  cut_two h = rw (lt-ltb (length s) 2 h)
+  cut_short h = rw (lt-ltb (length s) 2 h)
 
-  module _ {b : ℕ} (e : b ≡ get_or s 0 0) where
-    pub cut_even : 2 ≤ length s → b < 128 → false ≡ is_cut s
-    unfolding is_cut
-    cut_even l h = rw (le-ltb (length s) 2 l, ← e, lt-leb 128 b h)
+  pub cut_bare : 2 ≤ length s → length s < 3 → leb 128 (get_or s 0 0) ≡ is_cut s
+  unfolding is_cut
+  cut_bare l h = rw (le-ltb (length s) 2 l, eq-eqb (length s) 2 (omega arith)) (go (leb 128 (get_or s 0 0)))
+    where
+      go : (t : Bool) → t ≡ (t && true)
+      go true = refl
+      go false = refl
 
-    pub cut_odd : 128 ≤ b → 2 < length s → false ≡ is_cut s
-    unfolding is_cut
-    cut_odd h l = rw (le-ltb (length s) 2 (omega arith), ← e, le-leb 128 b h, ne_eqb (length s) 2 (λ z. omega arith))
-
-    pub cut_bare : 2 ≤ length s → 128 ≤ b → length s ≤ 2 → true ≡ is_cut s
-    unfolding is_cut
-    cut_bare l h m = rw (le-ltb (length s) 2 l, ← e, le-leb 128 b h, eq-eqb (length s) 2 (omega arith))
+  pub cut_not : 3 ≤ length s → false ≡ is_cut s
+  unfolding is_cut
+  cut_not l = rw (le-ltb (length s) 2 (omega arith), ne_eqb (length s) 2 (λ z. omega (arith, z))) (go (leb 128 (get_or s 0 0)))
+    where
+      go : (t : Bool) → false ≡ (t && false)
+      go true = refl
+      go false = refl
 
 -- ---- 44
 
@@ -97,25 +99,25 @@ named_is : (s : List ℕ)
 unfolding is_named fields_of
 named_is s = rw (second_named (get_or s 1 0))
 
-module _ (s : List ℕ) {b : ℕ} (e : b ≡ get_or s 0 0) {c : ℕ} (f : c ≡ get_or s 1 0) where
-  pub named_low : b % 128 < 3 → false ≡ is_named (fields_of s)
-  named_low h = rw (named_is s, ← e, ne_eqb (b % 128) 3 (λ z. omega arith), ne_eqb (b % 128) 4 (λ z. omega arith))
+-- what `?` returns
+pub not_ok : {T E : Type 0} (r : Result T E) → IsErr r → is_ok r ≡ false
+not_ok (Ok x) h = absurd (false≢true h)
+not_ok (Err e) h = refl
 
-  pub named_high : 4 < b % 128 → false ≡ is_named (fields_of s)
-  named_high h = rw (named_is s, ← e, ne_eqb (b % 128) 3 (λ z. omega arith), ne_eqb (b % 128) 4 (λ z. omega arith))
+module _ (s : List ℕ) where
+  pub nature_other : {n : ℕ} → n ≡ get_or s 0 0 % 128 → (n ≡ 3 → ⊥) → (n ≡ 4 → ⊥) → false ≡ is_named (fields_of s)
+  nature_other {n} e x y = rw (named_is s, ← e, ne_eqb n 3 x, ne_eqb n 4 y)
 
-  natures : 3 ≤ b % 128 → b % 128 ≤ 4 → (eqb (b % 128) 3 || eqb (b % 128) 4) ≡ true
-  natures l h = go (eqb (b % 128) 3) refl
-    where
-      go : (t : Bool) → eqb (b % 128) 3 ≡ t → (eqb (b % 128) 3 || eqb (b % 128) 4) ≡ true
-      go true p = rw p
-      go false p = let z : b % 128 ≡ 3 → ⊥ = eqb-false (b % 128) 3 p in rw (p, eq-eqb (b % 128) 4 (omega arith))
+  nature_good : (x : Nature) → get_or s 0 0 % 128 ≡ nature_number x → (eqb (get_or s 0 0 % 128) 3 || eqb (get_or s 0 0 % 128) 4) ≡ true
+  nature_good National e = rw e
+  nature_good International e = rw e
 
-  pub named_shown : 3 ≤ b % 128 → b % 128 ≤ 4 → c ≡ 19 → true ≡ is_named (fields_of s)
-  named_shown l h q = rw (named_is s, ← e, natures l h, ← f, q)
+  pub octet_other : (x : Nature) → get_or s 0 0 % 128 ≡ nature_number x → (get_or s 1 0 ≡ 19 → ⊥) → (get_or s 1 0 ≡ 23 → ⊥) → false ≡ is_named (fields_of s)
+  octet_other x e p q = rw (named_is s, nature_good x e, ne_eqb (get_or s 1 0) 19 p, ne_eqb (get_or s 1 0) 23 q)
 
-  pub named_other : 3 ≤ b % 128 → b % 128 ≤ 4 → (c ≡ 19 → ⊥) → eqb c 23 ≡ is_named (fields_of s)
-  named_other l h q = rw (named_is s, ← e, natures l h, ← f, ne_eqb c 19 q)
+  pub both_named : (x : Nature) → get_or s 0 0 % 128 ≡ nature_number x → (y : Presentation) → get_or s 1 0 ≡ presentation_octet y → true ≡ is_named (fields_of s)
+  both_named x e Allowed f = rw (named_is s, nature_good x e, f)
+  both_named x e Restricted f = rw (named_is s, nature_good x e, f)
 
 -- presentation is 1 in the one of the two octets
 shown_or_not : (s : List ℕ) → is_named (fields_of s) ≡ true → eqb (get_or s 1 0) 23 ≡ eqb (fields_of s).presentation 1
@@ -132,49 +134,38 @@ shown_or_not s n =
 
 -- ---- 45
 
-module _ (s : List ℕ) {b : ℕ} (e : b ≡ get_or s 0 0) where
-  pub filled_even : b < 128 → true ≡ filler_is_zero s
+module _ (s : List ℕ) where
+  pub filled_even : get_or s 0 0 < 128 → true ≡ filler_is_zero s
   unfolding filler_is_zero
-  filled_even h = rw (← e, lt-leb 128 b h)
+  filled_even h = rw (lt-leb 128 (get_or s 0 0) h)
 
-  pub some_octet : 128 ≤ b → 1 ≤ length s
-  some_octet h = go s e
-    where
-      go : (s : List ℕ) → b ≡ get_or s 0 0 → 1 ≤ length s
-      go [] q = absurd (omega arith)
-      go (a ∷ s) q = omega arith
-
-  pub filled_odd : 128 ≤ b → {i : ℕ} → i ≡ length s - 1 → {x : ℕ} → x ≡ get_or s i 0 → ltb x 16 ≡ filler_is_zero s
+  pub filled_odd : 128 ≤ get_or s 0 0 → ltb (get_or s (length s - 1) 0) 16 ≡ filler_is_zero s
   unfolding filler_is_zero
-  filled_odd h {i} z {x} q = rw (← e, le-leb 128 b h, ← z, ← q) (go (leb 16 x) refl)
+  filled_odd h = rw (le-leb 128 (get_or s 0 0) h) (go (get_or s (length s - 1) 0))
     where
-      go : (t : Bool) → leb 16 x ≡ t → ltb x 16 ≡ eqb (x / 16) 0
-      go true p = let l : 16 ≤ x = leb-true 16 x p in rw (le-ltb x 16 l) (sym (ne_eqb (x / 16) 0 (λ y. omega arith)))
-      go false p = let l : x < 16 = leb-false 16 x p in rw (lt-ltb x 16 l) (sym (eq-eqb (x / 16) 0 (omega arith)))
+      go : (x : ℕ) → ltb x 16 ≡ eqb (x / 16) 0
+      go x = by (leb 16 x) refl
+        where
+          by : (t : Bool) → leb 16 x ≡ t → ltb x 16 ≡ eqb (x / 16) 0
+          by true p = let l : 16 ≤ x = leb-true 16 x p in rw (le-ltb x 16 l) (sym (ne_eqb (x / 16) 0 (λ y. omega arith)))
+          by false p = let l : x < 16 = leb-false 16 x p in rw (lt-ltb x 16 l) (sym (eq-eqb (x / 16) 0 (omega arith)))
 
 -- ---- 46
 
 module _ (b : ℕ) where
-  pub halves_low : 9 < b % 16 → false ≡ is_pair b
+  pub low_code : b % 16 ≤ 9 → leb (b / 16) 9 ≡ is_pair b
   unfolding is_pair
-  halves_low h = rw (lt-leb (b % 16) 9 h)
+  low_code h = rw (le-leb (b % 16) 9 h)
 
-  pub halves_high : b % 16 ≤ 9 → leb (b / 16) 9 ≡ is_pair b
+  pub low_other : 9 < b % 16 → leb (b % 16) 9 ≡ is_pair b
   unfolding is_pair
-  halves_high h = rw (le-leb (b % 16) 9 h)
+  low_other h = rw (lt-leb (b % 16) 9 h)
 
-module _ (p : ℕ → Bool) (s : List ℕ) (i : ℕ) (h : all p s ≡ all p (drop i s)) where
-  pub all_bad : i < length s → {t : Bool} → t ≡ p (get_or s i 0) → not t ≡ true → false ≡ all p s
-  unfolding all
-  all_bad l {t} e q = sym (h ∙ rw (drop1 s i l, ← e, not-true t q))
-
-  pub all_next : i < length s → {t : Bool} → t ≡ p (get_or s i 0) → not t ≡ false → {j : ℕ} → j ≡ i + 1 → all p s ≡ all p (drop j s)
-  unfolding all
-  all_next l {t} e q z = h ∙ rw (drop1 s i l, ← e, not-false t q, z)
-
-  pub all_end : length s ≤ i → true ≡ all p s
-  unfolding all
-  all_end l = sym (h ∙ rw (drop_of_length-le s l))
+-- std's word for it
+pub all_listed : (p : ℕ → Bool) (s : List ℕ) → list_all p s ≡ all p s
+unfolding all
+all_listed p [] = refl
+all_listed p (b ∷ s) = ap (λ (t : Bool). p b && t) (all_listed p s)
 
 pub long_enough : (s : List ℕ) → is_cut s ≡ false → 2 ≤ length s
 unfolding is_cut
@@ -220,96 +211,61 @@ pairs_signals s k f = go (is_odd s) refl f
 
 -- ---- the digits that come back
 
-module _ (bs : List ℕ) (i : ℕ) {b : ℕ} (e : b ≡ get_or bs (i / 2) 0) where
-  pub low_half : i % 2 ≡ 0 → {r : ℕ} → r ≡ 48 + b % 16 → r ≡ digit_at bs i
+module _ (bs : List ℕ) (i : ℕ) where
+  pub low_half : i % 2 ≡ 0 → 48 + get_or bs (i / 2) 0 % 16 ≡ digit_at bs i
   unfolding digit_at
-  low_half h q = q ∙ rw (← e, h)
+  low_half h = rw h
 
-  pub high_half : (i % 2 ≡ 0 → ⊥) → {r : ℕ} → r ≡ 48 + b / 16 → r ≡ digit_at bs i
+  pub high_half : (i % 2 ≡ 0 → ⊥) → 48 + get_or bs (i / 2) 0 / 16 ≡ digit_at bs i
   unfolding digit_at
-  high_half h q = q ∙ rw (← e, ne_eqb (i % 2) 0 h)
+  high_half h = rw (ne_eqb (i % 2) 0 h)
 
-module _ (d : List ℕ) (at : ℕ) (bs : List ℕ) (n : ℕ) (h : at + n ≤ length d) (m : n ≤ 2 * length bs) (i : ℕ) (o : List ℕ)
-    (e : o ≡ paste d at (digits n bs) i) where
-  pub digit_next : i < n → {r : ℕ} → r ≡ digit_at bs i → {k : ℕ} → k ≡ i + 1 → set o (at + i) r ≡ paste d at (digits n bs) k
-  digit_next l {r} q z =
-      let y : r ≡ get_or (digits n bs) i 0 = q ∙ sym (digits_at n bs i l m) in
-      let l' : length (digits n bs) ≡ n = digits_length n bs m in
-      rw y (copied_next d at (digits n bs) (omega arith) i o e (omega arith) z)
+pub digits_next : (i : ℕ) (bs : List ℕ) → i < 2 * length bs → digits (i + 1) bs ≡ digits i bs ++ digit_at bs i ∷ []
+unfolding signals digit_at
+digits_next zero [] h = absurd (omega arith)
+digits_next zero (b ∷ bs) h = refl
+digits_next (suc zero) [] h = absurd (omega arith)
+digits_next (suc zero) (b ∷ bs) h = refl
+digits_next (suc (suc i)) [] h = absurd (omega arith)
+digits_next (suc (suc i)) (b ∷ bs) h =
+    let y : suc (suc i) % 2 ≡ i % 2 = omega arith in
+    let z : suc (suc i) / 2 ≡ suc (i / 2) = omega arith in
+    let x : suc (suc i) + 1 ≡ suc (suc (i + 1)) = omega arith in
+    rw (x, y, z, digits_next i bs (omega arith))
 
-  pub digits_done : i ≤ n → n ≤ i → Wrote d at (digits n bs) (at + n) o
-  digits_done a b =
-      let l : length (digits n bs) ≡ n = digits_length n bs m in
-      copied_all d at (digits n bs) (omega arith) i o e {r = at + n} (omega arith) (omega arith) (omega arith)
+-- the number so far, and one digit more
+module _ (prefix s : List ℕ) (i : ℕ) {items : List ℕ} (e : items ≡ 43 ∷ (prefix ++ digits i s)) where
+  pub number_room : {n : ℕ} → i < n → n ≤ 2 * length s → 1 + length prefix + n ≤ 16 → length items < 16
+  number_room l m h = omega (arith, ap length e, length-append prefix (digits i s), digits_length i s (omega arith))
 
--- what stands at the front of an array of zeros
-front_padded : (size : ℕ) (s : List ℕ) → length s ≤ size → {r : ℕ} {o : List ℕ} → Placed (replicate {A = ℕ} size 0) 0 s r o → o ≡ padded size s
-unfolding padded
-front_padded size s h p =
-    p.wrote.holds ∙ put_front (replicate {A = ℕ} size 0) s (omega (arith, length-replicate {A = ℕ} size 0)) ∙ rw (drop_zeros size (length s) h)
+  pub number_next : i < 2 * length s → {d : ℕ} → d ≡ digit_at s i → {others : List ℕ} → others ≡ items ++ d ∷ []
+      → others ≡ 43 ∷ (prefix ++ digits (i + 1) s)
+  number_next l q f = f ∙ rw (e, q, digits_next i s l, append_assoc prefix (digits i s) (digit_at s i ∷ []))
 
-module _ (prefix bs : List ℕ) (n : ℕ) (h : 1 + length prefix + n ≤ 16) (m : n ≤ 2 * length bs) {a : ℕ} {x : List ℕ}
-    (p : Wrote (replicate {A = ℕ} 16 0) 0 (43 ∷ []) a x) where
-  plus_placed : Placed (replicate {A = ℕ} 16 0) 0 (43 ∷ []) a x
-  plus_placed = placed p (omega arith)
+pub number_begin : (prefix : List ℕ) {a b c : List ℕ} → a ≡ [] → b ≡ a ++ 43 ∷ [] → c ≡ b ++ prefix → c ≡ 43 ∷ (prefix ++ [])
+number_begin prefix p q r = r ∙ rw (q, p, append-nil)
 
-  module _ {b : ℕ} {y : List ℕ} (q : Wrote x a prefix b y) where
-    prefix_placed : Placed x a prefix b y
-    prefix_placed = placed q (omega (arith, wrote_length p, plus_placed.next, length-replicate {A = ℕ} 16 0))
-
-    behind_prefix : b ≡ 1 + length prefix
-    behind_prefix = omega (arith, plus_placed.next, prefix_placed.next)
-
-    y_length : length y ≡ 16
-    y_length = wrote_length q ∙ wrote_length p ∙ length-replicate {A = ℕ} 16 0
-
-    pub digits_fit : b + n ≤ length y
-    digits_fit = omega (arith, behind_prefix, y_length)
-
-    pub number_filled : {z : List ℕ} → Wrote y b (digits n bs) (b + n) z → z ≡ padded 16 (43 ∷ (prefix ++ digits n bs))
-    number_filled w =
-        let l : length (digits n bs) ≡ n = digits_length n bs m in
-        let v = placed w (omega (arith, digits_fit)) in
-        let j : length (43 ∷ (prefix ++ digits n bs)) ≤ 16 = omega (arith, length-append prefix (digits n bs)) in
-        front_padded 16 (43 ∷ (prefix ++ digits n bs)) j (and_then plus_placed (and_then prefix_placed v))
+pub on_ok : {T E P : Type 0} (r : Result T E) {x : T} → r ≡ Ok x → OnOk r P → P
+on_ok r e h = rw e at h
 
 -- ---- the caller
 
-module _ (code s : List ℕ) {b : ℕ} (e : b ≡ get_or s 0 0) where
-  pub prefix_code : b % 128 ≡ 3 → code ≡ cond (eqb (fields_of s).nature_of_address 3) code []
-  unfolding fields_of
-  prefix_code h = rw (← e, h)
-
-  pub prefix_none : (b % 128 ≡ 3 → ⊥) → {r : List ℕ} → r ≡ take 0 code → r ≡ cond (eqb (fields_of s).nature_of_address 3) code []
-  unfolding fields_of
-  prefix_none h q = q ∙ rw (← e, ne_eqb (b % 128) 3 h)
+pub prefix_same : (x : Nature) (code s : List ℕ) → nature_number x ≡ (fields_of s).nature_of_address
+    → cond (is_national_nature x) code [] ≡ cond (eqb (fields_of s).nature_of_address 3) code []
+prefix_same National code s e = rw (← e)
+prefix_same International code s e = rw (← e)
 
 module _ (s : List ℕ) (k : is_cut s ≡ false) where
-  module _ {b : ℕ} (e : b ≡ get_or s 0 0) {n : ℕ} (z : n ≡ 2 * (length s - 2)) where
-    pub count_even : b < 128 → n ≡ signal_count s
-    count_even h = rw (← e, lt-leb 128 b h) (omega arith)
+  pub count_some : 128 ≤ get_or s 0 0 → 1 ≤ 2 * (length s - 2)
+  count_some h = omega (arith, odd_longer s k (le-leb 128 (get_or s 0 0) h))
 
-    pub count_odd : 128 ≤ b → n - 1 ≡ signal_count s
-    count_odd h = rw (← e, le-leb 128 b h, z)
+pub number_47 : (i : Bool) (number : List ℕ) {t : Bool} → t ≡ is_global number → t ≡ false → no_caller 47 ≡ caller_for i number
+unfolding caller_for
+number_47 i number e q = rw (← e, q)
 
-    pub count_some : 128 ≤ b → 1 ≤ n
-    count_some h = let o : is_odd s ≡ true = rw (← e, le-leb 128 b h) in omega (arith, odd_longer s k o)
-
-module _ (i : Bool) (number : List ℕ) (len : ℕ) {t : Bool} (e : t ≡ is_global (take (len - 0) number)) where
-  first_len : t ≡ is_global (take len number)
-  first_len = let z : len - 0 ≡ len = omega arith in e ∙ rw z
-
-  pub caller_47 : not t ≡ true → {r : Caller} → r ≡ no_caller 47 → r ≡ caller_held i number len
-  unfolding caller_held
-  caller_47 q f = rw (← first_len, not-true t q) f
-
-  pub caller_found : not t ≡ false → record { refusal = 0; id = i; len = len; number = number } ≡ caller_held i number len
-  unfolding caller_held
-  caller_found q = rw (← first_len, not-false t q)
-
-padded_caller : (i : Bool) (number : List ℕ) (total : ℕ) → length number ≡ total → caller_held i (padded 16 number) total ≡ caller_for i number
-unfolding caller_held caller_for caller_with padded
-padded_caller i number total y = rw (take_at number (replicate (16 - length number) 0) total y, ← y)
+pub number_good : (i : Bool) (number : List ℕ) {t : Bool} → t ≡ is_global number → t ≡ true → caller_with i number ≡ caller_for i number
+unfolding caller_for
+number_good i number e q = rw (← e, q)
 
 number_too_long : (m : List ℕ) → 16 < length m → is_global m ≡ false
 number_too_long m h = go (is_global m) refl
@@ -329,89 +285,71 @@ module _ (i : Bool) (code s : List ℕ) (k : is_cut s ≡ false) where
   unfolding number_from fields_of
   number_length = omega (arith, length-append pre (digits (signal_count s) (drop 2 s)), digits_length (signal_count s) (drop 2 s) count_most)
 
-  too_long : 16 < length (number_from code (fields_of s)) → {r : Caller} → r ≡ no_caller 47 → r ≡ caller_for i (number_from code (fields_of s))
+  too_long : 16 < length (number_from code (fields_of s)) → no_caller 47 ≡ caller_for i (number_from code (fields_of s))
   unfolding caller_for
-  too_long h q = rw (number_too_long (number_from code (fields_of s)) h) q
+  too_long h = rw (number_too_long (number_from code (fields_of s)) h)
 
-  pub far_47 : 10 < length s → {r : Caller} → r ≡ no_caller 47 → r ≡ caller_for i (number_from code (fields_of s))
-  far_47 h q = too_long (omega (arith, number_length, bit_most (is_odd s))) q
+  pub far_47 : 10 < length s → no_caller 47 ≡ caller_for i (number_from code (fields_of s))
+  far_47 h = too_long (omega (arith, number_length, bit_most (is_odd s)))
 
-  module _ {p : List ℕ} (e : p ≡ pre) {n : ℕ} (f : n ≡ signal_count s) where
-    module _ {total : ℕ} (z : total ≡ 1 + length p + n) where
-      pub total_47 : 16 < total → {r : Caller} → r ≡ no_caller 47 → r ≡ caller_for i (number_from code (fields_of s))
-      total_47 h q = too_long (omega (arith, number_length, ap length e)) q
+  module _ (x : Nature) (same_nature : nature_number x ≡ (fields_of s).nature_of_address) {p : List ℕ} (e : p ≡ cond (is_national_nature x) code [])
+      {n : ℕ} (f : n ≡ signal_count s) where
+    prefix_is : p ≡ pre
+    prefix_is = e ∙ prefix_same x code s same_nature
 
-      number_same : {bs : List ℕ} → bs ≡ drop 2 s → 43 ∷ (p ++ digits n bs) ≡ number_from code (fields_of s)
-      unfolding number_from fields_of
-      number_same b = rw (b, e, f)
+    pub total_47 : 16 < 1 + length p + n → no_caller 47 ≡ caller_for i (number_from code (fields_of s))
+    total_47 h = too_long (omega (arith, number_length, ap length prefix_is))
 
-      caller_same : {bs : List ℕ} → bs ≡ drop 2 s → {a : List ℕ} → a ≡ padded 16 (43 ∷ (p ++ digits n bs))
-          → caller_held i a total ≡ caller_for i (number_from code (fields_of s))
-      caller_same {bs} b {a} g =
-          let y : length (number_from code (fields_of s)) ≡ total = omega (arith, number_length, ap length e) in
-          ap (λ (x : List ℕ). caller_held i x total) (g ∙ ap (padded 16) (number_same b)) ∙ padded_caller i (number_from code (fields_of s)) total y
-
-module _ (code s : List ℕ) (k : is_cut s ≡ false) {p : List ℕ} (e : p ≡ cond (eqb (fields_of s).nature_of_address 3) code [])
-    {n : ℕ} (f : n ≡ signal_count s) {total : ℕ} (z : total ≡ 1 + length p + n) where
-  pub caller_is : {bs : List ℕ} → bs ≡ drop 2 s → {a : List ℕ} → a ≡ padded 16 (43 ∷ (p ++ digits n bs)) → {b : ℕ} → b ≡ get_or s 1 0 → {r : Caller}
-      → r ≡ caller_held (eqb b 23) a total → r ≡ caller_for (eqb (get_or s 1 0) 23) (number_from code (fields_of s))
-  caller_is h g y q = q ∙ rw y (caller_same (eqb (get_or s 1 0) 23) code s k e f z h g)
-
--- a country code and the digits of ten octets: no sum wraps
-module _ (code p : List ℕ) (c : is_code code ≡ true) (l : length p ≤ length code) where
-  pub prefix_fits : 1 + length p < 18446744073709551616
-  prefix_fits = omega (arith, (code_read code c).three_digits)
-
-  pub total_fits : (s : List ℕ) {n : ℕ} → length s ≤ 10 → n ≤ 2 * (length s - 2) → 1 + length p + n < 18446744073709551616
-  total_fits s h k = omega (arith, (code_read code c).three_digits)
+    pub caller_is : {bs : List ℕ} → bs ≡ drop 2 s → {a : List ℕ} → a ≡ 43 ∷ (p ++ digits n bs) → {r : Caller} → r ≡ caller_for i a
+        → r ≡ caller_for i (number_from code (fields_of s))
+    unfolding number_from fields_of
+    caller_is b g q = q ∙ rw (g, b, prefix_is, f)
 
 -- ---- the tests, in their order
 
-pub cut_no : (s : List ℕ) {b : Bool} → b ≡ is_cut s → b ≡ false → is_cut s ≡ false
-cut_no s e q = sym e ∙ q
-
 module _ (code s : List ℕ) {a : Bool} (ea : a ≡ is_code code) where
-  pub decode_41 : not a ≡ true → {r : Caller} → r ≡ no_caller 41 → r ≡ decoded code s
+  pub decode_41 : a ≡ false → no_caller 41 ≡ decoded code s
   unfolding decoded
-  decode_41 q f = rw (← ea, not-true a q) f
+  decode_41 q = rw (← ea, q)
 
-  module _ (qa : not a ≡ false) where
+  module _ (qa : a ≡ true) where
     pub code_good : is_code code ≡ true
-    code_good = sym ea ∙ not-false a qa
+    code_good = sym ea ∙ qa
 
     module _ {b : Bool} (eb : b ≡ is_cut s) where
-      pub decode_43 : b ≡ true → {r : Caller} → r ≡ no_caller 43 → r ≡ decoded code s
+      pub decode_43 : b ≡ true → no_caller 43 ≡ decoded code s
       unfolding decoded
-      decode_43 q f = rw (code_good, ← eb, q) f
+      decode_43 q = rw (code_good, ← eb, q)
 
       module _ (qb : b ≡ false) where
-        not_cut : is_cut s ≡ false
+        pub not_cut : is_cut s ≡ false
         not_cut = sym eb ∙ qb
 
-        module _ {c : Bool} (ec : c ≡ is_named (fields_of s)) where
-          pub decode_44 : not c ≡ true → {r : Caller} → r ≡ no_caller 44 → r ≡ decoded code s
+        pub decode_44 : false ≡ is_named (fields_of s) → no_caller 44 ≡ decoded code s
+        unfolding decoded
+        decode_44 q = rw (code_good, not_cut, ← q)
+
+        pub decode_refused : (r : Result Found NoCaller) (e : NoCaller) → r ≡ Err e → e ≡ Field → false ≡ is_named (fields_of s)
+            → caller_in r ≡ decoded code s
+        decode_refused r e x y q = rw (x, y) (decode_44 q)
+
+        module _ (ec : true ≡ is_named (fields_of s)) {d : Bool} (ed : d ≡ filler_is_zero s) where
+          pub decode_45 : d ≡ false → no_caller 45 ≡ decoded code s
           unfolding decoded
-          decode_44 q f = rw (code_good, not_cut, ← ec, not-true c q) f
+          decode_45 q = rw (code_good, not_cut, ← ec, ← ed, q)
 
-          module _ (qc : not c ≡ false) {d : Bool} (ed : d ≡ filler_is_zero s) where
-            are_named : is_named (fields_of s) ≡ true
-            are_named = sym ec ∙ not-false c qc
+          module _ (qd : d ≡ true) {bs : List ℕ} (h : bs ≡ drop 2 s) {e : Bool} (ee : e ≡ list_all is_pair bs) where
+            filled : filler_is_zero s ≡ true
+            filled = sym ed ∙ qd
 
-            pub decode_45 : not d ≡ true → {r : Caller} → r ≡ no_caller 45 → r ≡ decoded code s
+            codes : e ≡ all is_digit_code (fields_of s).address_signals
+            codes = ee ∙ all_listed is_pair bs ∙ ap (all is_pair) h ∙ pairs_signals s not_cut filled
+
+            pub decode_46 : e ≡ false → no_caller 46 ≡ decoded code s
             unfolding decoded
-            decode_45 q f = rw (code_good, not_cut, are_named, ← ed, not-true d q) f
+            decode_46 q = rw (code_good, not_cut, ← ec, filled, ← codes, q)
 
-            module _ (qd : not d ≡ false) {bs : List ℕ} (h : bs ≡ drop 2 s) {e : Bool} (ee : e ≡ all is_pair bs) where
-              filled : filler_is_zero s ≡ true
-              filled = sym ed ∙ not-false d qd
-
-              codes : e ≡ all is_digit_code (fields_of s).address_signals
-              codes = ee ∙ ap (all is_pair) h ∙ pairs_signals s not_cut filled
-
-              pub decode_46 : not e ≡ true → {r : Caller} → r ≡ no_caller 46 → r ≡ decoded code s
-              unfolding decoded
-              decode_46 q f = rw (code_good, not_cut, are_named, filled, ← codes, not-true e q) f
-
-              pub decode_is : not e ≡ false → {r : Caller} → r ≡ caller_for (eqb (get_or s 1 0) 23) (number_from code (fields_of s)) → r ≡ decoded code s
-              unfolding decoded
-              decode_is q f = rw (code_good, not_cut, are_named, filled, ← codes, not-false e q, ← shown_or_not s are_named) f
+            pub decode_is : e ≡ true → {n : ℕ} → n ≡ get_or s 1 0 → {i : Bool} → i ≡ eqb n 23 → {r : Caller}
+                → r ≡ caller_for i (number_from code (fields_of s)) → r ≡ decoded code s
+            unfolding decoded
+            decode_is q y z f = rw (code_good, not_cut, ← ec, filled, ← codes, q, ← shown_or_not s (sym ec), ← y, ← z) f

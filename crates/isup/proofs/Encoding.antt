@@ -1,150 +1,134 @@
 -- What the steps of encoding answer: the country code, the two first octets, and the pairs of digits written behind them.
 use mathlib.Core.Path.{◌≡◌, refl, sym, ap, ◌∙◌}
-use mathlib.Core.Bool.{Bool, true, false, not, cond}
-use mathlib.Core.List.{List, [], ◌∷◌, map}
-use Prim.Native.Nat.{ℕ, zero, suc, ◌+◌, ◌-◌, ◌*◌, ◌/◌, ◌%◌, ◌≤◌, ◌<◌}
+use mathlib.Core.Bool.{Bool, true, false, cond}
+use mathlib.Core.List.{List, [], ◌∷◌, ◌++◌, map, append_assoc, append-nil}
+use Prim.Native.Nat.{ℕ, zero, min, suc, ◌+◌, ◌-◌, ◌*◌, ◌%◌, ◌≤◌, ◌<◌}
 use native.Mathlib.Omega.{arith}
-use lib.Dec.{ltb}
-use lib.ListN.{length, take, drop, get_or, set, replicate, length-map, length-replicate, replicate-append-replicate}
-use lib.Seq.{take-length, drop_at, paste}
-use borrow.Author.Tests.{le-leb, lt-leb, eq-eqb, ne_eqb, not-true, not-false}
+use lib.ListN.{length, take, drop, get_or, length-append, length-map}
 use Rattle.octets.specs.Classes.{bit, is_digit}
-use Rattle.octets.specs.Scans.{run, all, starts, same}
+use Rattle.octets.specs.Scans.{all, same}
 use Rattle.sip.proofs.Tests.{all_first, all_others}
-use Rattle.emit.proofs.Copies.{copied_next}
 use Rattle.sip.specs.Values.{is_global}
 use Rattle.isup.specs.Fields.{packed, octets}
-use Rattle.isup.specs.Forward.{is_code, starts_with, is_national, sent, signal, fields_for, encoded, padded, parameter_of}
-use Rattle.isup.specs.Steps.{pair_at, second_for}
+use Rattle.isup.specs.Forward.{starts_with, is_national, sent, signal, fields_for, encoded}
+use Rattle.isup.specs.Steps.{second_for}
+use Rattle.isup.specs.Views.{nature_number, is_national_nature}
+use Rattle.isup.specs.declared.fields.Nature.{Nature}
+use Rattle.isup.specs.declared.fields.Nature.TheVariants.{National, International}
 use Rattle.isup.proofs.Numbers.{global_plus, sent_digits, sent_length}
-use Rattle.isup.proofs.Signals.{digit_most, packed_count, packed_at}
-
--- ---- the country code
-
-module _ (code : List ℕ) {n : ℕ} (hn : n ≡ run is_digit code) where
-  pub code_none : n < 1 → false ≡ is_code code
-  unfolding is_code
-  code_none h = rw (← hn, lt-leb 1 n h)
-
-  module _ (l : 1 ≤ n) where
-    pub code_long : 3 < n → false ≡ is_code code
-    unfolding is_code
-    code_long h = rw (← hn, le-leb 1 n l, lt-leb n 3 h)
-
-    module _ (h : n ≤ 3) where
-      pub code_other : (n ≡ length code → ⊥) → false ≡ is_code code
-      unfolding is_code
-      code_other q = rw (← hn, le-leb 1 n l, le-leb n 3 h, ne_eqb n (length code) q)
-
-      pub code_first : n ≡ length code → {a : ℕ} → a ≡ bit (starts 48 code) → ltb a 1 ≡ is_code code
-      unfolding is_code
-      code_first q {a} e = rw (← hn, le-leb 1 n l, le-leb n 3 h, eq-eqb n (length code) q, e) (go (starts 48 code))
-        where
-          go : (t : Bool) → ltb (bit t) 1 ≡ not t
-          go true = refl
-          go false = refl
+use Rattle.isup.proofs.Signals.{digit_least as least, digit_most, packed_count}
 
 -- ---- nature of address
 
 module _ (code ds : List ℕ) where
-  pub away : (home : Bool) → not home ≡ true → false ≡ is_national code home ds
+  pub away : (home : Bool) → home ≡ false → home ≡ is_national code home ds
   unfolding is_national
-  away home q = rw (not-true home q)
+  away home q = rw q
 
-  pub at_home : (home : Bool) → not home ≡ false → {t : List ℕ} → t ≡ take (length code) ds → {r : Bool} → r ≡ same code t → r ≡ is_national code home ds
+  pub at_home : (home : Bool) → home ≡ true → {t : List ℕ} → t ≡ take (length code) ds → {r : Bool} → r ≡ same code t → r ≡ is_national code home ds
   unfolding is_national starts_with
-  at_home home q e f = rw (not-false home q) (f ∙ rw e)
-
-  pub code_left_out : (n : Bool) → n ≡ true → {t : List ℕ} → t ≡ drop (length code) ds → t ≡ sent code n ds
-  unfolding sent
-  code_left_out n q e = rw q e
-
-  pub code_stays : (n : Bool) → n ≡ false → ds ≡ sent code n ds
-  unfolding sent
-  code_stays n q = rw q
-
-module _ (n : Bool) (len : ℕ) where
-  pub even_national : len % 2 ≡ 0 → n ≡ true → 3 ≡ 128 * (len % 2) + cond n 3 4
-  even_national a b = rw (a, b)
-
-  pub even_other : len % 2 ≡ 0 → n ≡ false → 4 ≡ 128 * (len % 2) + cond n 3 4
-  even_other a b = rw (a, b)
-
-  is_one : (len % 2 ≡ 0 → ⊥) → len % 2 ≡ 1
-  is_one a = omega arith
-
-  pub odd_national : (len % 2 ≡ 0 → ⊥) → n ≡ true → 131 ≡ 128 * (len % 2) + cond n 3 4
-  odd_national a b = rw (is_one a, b)
-
-  pub odd_other : (len % 2 ≡ 0 → ⊥) → n ≡ false → 132 ≡ 128 * (len % 2) + cond n 3 4
-  odd_other a b = rw (is_one a, b)
+  at_home home q e f = rw q (f ∙ rw e)
 
 -- ---- pairs
 
-digit_at : (ds : List ℕ) (i : ℕ) → all is_digit ds ≡ true → get_or ds i 0 ≤ 57
+pub digit_least : (ds : List ℕ) (i : ℕ) → all is_digit ds ≡ true → i < length ds → 48 ≤ get_or ds i 0
+digit_least [] i e h = absurd (omega arith)
+digit_least (a ∷ ds) zero e h = least a (all_first is_digit a ds e)
+digit_least (a ∷ ds) (suc i) e h = digit_least ds i (all_others is_digit a ds e) (omega arith)
+
+pub digit_at : (ds : List ℕ) (i : ℕ) → all is_digit ds ≡ true → get_or ds i 0 ≤ 57
 digit_at [] i e = omega arith
 digit_at (a ∷ ds) zero e = digit_most a (all_first is_digit a ds e)
 digit_at (a ∷ ds) (suc i) e = digit_at ds i (all_others is_digit a ds e)
 
-module _ (ds : List ℕ) (j : ℕ) (e : all is_digit ds ≡ true) {x : ℕ} (hx : x ≡ get_or ds (2 * j) 0 - 48) {y : ℕ} (hy : y ≡ get_or ds (2 * j + 1) 0 - 48) where
-  pub pair_product : 16 * y < 18446744073709551616
-  pair_product = omega (arith, digit_at ds (2 * j + 1) e)
+pub pair_product : (ds : List ℕ) → all is_digit ds ≡ true → 16 * (get_or ds 1 0 - 48) < 256
+pair_product ds e = omega (arith, digit_at ds 1 e)
 
-  pub pair_sum : x + 16 * y < 18446744073709551616
-  pair_sum = omega (arith, digit_at ds (2 * j + 1) e, digit_at ds (2 * j) e)
+pub pair_sum : (ds : List ℕ) → all is_digit ds ≡ true → get_or ds 0 0 - 48 + 16 * (get_or ds 1 0 - 48) < 256
+pair_sum ds e = omega (arith, digit_at ds 0 e, digit_at ds 1 e)
 
-  pub pair_small : x + 16 * y < 256
-  pair_small = omega (arith, digit_at ds (2 * j + 1) e, digit_at ds (2 * j) e)
+pub one_packed : (ds : List ℕ) → 1 ≤ length ds → length ds < 2 → packed (map signal ds) ≡ (get_or ds 0 0 - 48) ∷ []
+unfolding packed
+one_packed [] l h = absurd (omega arith)
+one_packed (a ∷ []) l h = let z : a - 48 + 16 * 0 ≡ a - 48 = omega arith in rw z
+one_packed (a ∷ b ∷ ds) l h = absurd (omega arith)
 
-  pub pair_is : {r : ℕ} → r ≡ x + 16 * y → r ≡ pair_at ds j
-  unfolding pair_at
-  pair_is q = q ∙ rw (hx, hy)
+pub two_packed : (ds : List ℕ) → 2 ≤ length ds → length ds < 3 → packed (map signal ds) ≡ (get_or ds 0 0 - 48 + 16 * (get_or ds 1 0 - 48)) ∷ []
+unfolding packed
+two_packed [] l h = absurd (omega arith)
+two_packed (a ∷ []) l h = absurd (omega arith)
+two_packed (a ∷ b ∷ []) l h = refl
+two_packed (a ∷ b ∷ c ∷ ds) l h = absurd (omega arith)
+
+-- two digits in front, or all that there are
+pub packed_front : (x ds : List ℕ) → length x ≡ min 2 (length (x ++ ds)) → packed (map signal (x ++ ds)) ≡ packed (map signal x) ++ packed (map signal ds)
+unfolding packed
+packed_front [] [] h = refl
+packed_front [] (a ∷ ds) h = absurd (omega arith)
+packed_front (a ∷ []) [] h = refl
+packed_front (a ∷ []) (b ∷ ds) h = absurd (omega arith)
+packed_front (a ∷ b ∷ []) ds h = refl
+packed_front (a ∷ b ∷ c ∷ x) ds h = absurd (omega (arith, length-append x ds))
+
+all_of : (p : ℕ → Bool) (x y : List ℕ) → all p (x ++ y) ≡ true → (all p x ≡ true) × (all p y ≡ true)
+unfolding all
+all_of p [] y e = (refl, e)
+all_of p (b ∷ x) y e =
+    let r = all_of p x y (all_others p b (x ++ y) e) in
+    (rw (all_first p b (x ++ y) e, r.0), r.1)
 
 -- ---- the octets
 
-pub drop_zeros : (n k : ℕ) → k ≤ n → drop k (replicate {A = ℕ} n 0) ≡ replicate (n - k) 0
-drop_zeros n k h =
-    let z : n ≡ k + (n - k) = omega arith in
-    ap (λ (m : ℕ). drop k (replicate {A = ℕ} m 0)) z
-    ∙ ap (drop k) (sym (replicate-append-replicate {A = ℕ} k (n - k) 0))
-    ∙ drop_at (replicate {A = ℕ} k 0) (replicate (n - k) 0) k (length-replicate {A = ℕ} k 0)
+-- what is left to pack stands behind what is packed
+pub record Packing (all_of_them ds items left : List ℕ) : Type 0 where
+  pub stands : items ++ packed (map signal left) ≡ all_of_them ++ packed (map signal ds)
+  pub digits : all is_digit left ≡ true
 
-abbrev pub two_octets : ℕ → ℕ → List ℕ
-two_octets first second = first ∷ second ∷ replicate 8 0
+pub packing_begin : (o ds : List ℕ) {left : List ℕ} → left ≡ ds → all is_digit ds ≡ true → Packing o ds o left
+packing_begin o ds e d = record { stands = rw e; digits = rw e d }
 
-module _ (first second : ℕ) (ds : List ℕ) (l : length ds ≤ 15) {n : ℕ} (hn : n ≡ (length ds + 1) / 2) (j : ℕ) (o : List ℕ)
-    (e : o ≡ paste (two_octets first second) 2 (packed (map signal ds)) j) where
-  abbrev ps : List ℕ
-  ps = packed (map signal ds)
+module _ (o ds items left : List ℕ) (p : Packing o ds items left) where
+  pub all_packed : length left ≡ 0 → items ≡ o ++ packed (map signal ds)
+  unfolding packed
+  all_packed z = go left refl
+    where
+      go : (s : List ℕ) → left ≡ s → items ≡ o ++ packed (map signal ds)
+      go [] q = sym (append-nil items) ∙ rw q at p.stands
+      go (a ∷ s) q = absurd (omega (arith, ap length q))
 
-  pub pair_again : j < n → {r : ℕ} → r ≡ pair_at ds j → {k : ℕ} → k ≡ j + 1
-      → set o (2 + j) r ≡ paste (two_octets first second) 2 (packed (map signal ds)) k
-  pair_again h {r} q z =
-      let y : r ≡ get_or ps j 0 = q ∙ sym (packed_at ds j (omega (arith, packed_count ds))) in
-      let l' : length ps ≤ 8 = omega (arith, packed_count ds) in
-      rw y (copied_next (two_octets first second) 2 ps (omega arith) j o e (omega (arith, packed_count ds)) z)
+  module _ (x after : List ℕ) (e : left ≡ x ++ after) {size : ℕ} (two : size ≡ 2) (h : length x ≡ min size (length left)) where
+    pub pair_digits : all is_digit x ≡ true
+    pair_digits = (all_of is_digit x after (rw e at p.digits)).0
 
-  pub octets_done : j ≤ n → n ≤ j → o ≡ padded 10 (first ∷ second ∷ packed (map signal ds))
-  unfolding padded
-  octets_done a b =
-      let z : j ≡ length ps = omega (arith, packed_count ds) in
-      let d : drop (2 + length ps) (two_octets first second) ≡ replicate (8 - length ps) 0 =
-      let y : 2 + length ps ≡ suc (suc (length ps)) = omega arith in
-      rw y (drop_zeros 8 (length ps) (omega (arith, packed_count ds))) in
-      let x : 10 - suc (suc (length ps)) ≡ 8 - length ps = omega arith in
-      e ∙ rw (z, take-length ps, d, x)
+    pub pair_room : length o ≡ 2 → length ds ≤ 15 → 0 < length left → length items < 10
+    pair_room k l m =
+        omega (
+          arith,
+          ap length p.stands,
+          length-append items (packed (map signal left)),
+          length-append o (packed (map signal ds)),
+          packed_count left,
+          packed_count ds,
+        )
+
+    pub packing_next : {d : ℕ} → packed (map signal x) ≡ d ∷ [] → {others : List ℕ} → others ≡ items ++ d ∷ [] → Packing o ds others after
+    packing_next {d} q f =
+        let g : length x ≡ min 2 (length (x ++ after)) = h ∙ rw (two, e) in
+        let s : packed (map signal left) ≡ d ∷ packed (map signal after) = rw e (packed_front x after g ∙ rw q) in
+        record {
+          stands = rw (f, append_assoc items (d ∷ []) (packed (map signal after)), ← s) p.stands;
+          digits = (all_of is_digit x after (rw e at p.digits)).1;
+        }
 
 -- ---- the parameter
-
-pub second_withheld : (w : Bool) → w ≡ true → 23 ≡ second_for w
-second_withheld w e = rw e
-
-pub second_shown : (w : Bool) → w ≡ false → 19 ≡ second_for w
-second_shown w e = rw e
 
 second_is : (w : Bool) → 128 * 0 + 16 * 1 + 4 * bit w + 3 ≡ second_for w
 second_is true = refl
 second_is false = refl
+
+nature_is : (x : Nature) → nature_number x ≡ cond (is_national_nature x) 3 4
+nature_is National = refl
+nature_is International = refl
 
 module _ (code : List ℕ) (number : List ℕ) (g : is_global number ≡ true) {ds : List ℕ} (hd : ds ≡ drop 1 number) (n : Bool) {t : List ℕ}
     (ht : t ≡ sent code n ds) where
@@ -154,12 +138,12 @@ module _ (code : List ℕ) (number : List ℕ) (g : is_global number ≡ true) {
   pub are_few : length t ≤ 15
   are_few = rw (ht, hd) (sent_length code n (drop 1 number) (global_plus number g).few)
 
-  pub parameter_is : (home w : Bool) → n ≡ is_national code home ds → {a b : ℕ} → a ≡ 128 * (length t % 2) + cond n 3 4 → b ≡ second_for w
-      → {bs : List ℕ} → bs ≡ padded 10 (a ∷ b ∷ packed (map signal t)) → {len : ℕ} → len ≡ 2 + (length t + 1) / 2
-      → record { refusal = record { reason = 0; reply = 0; detail = 0; missing = 0 }; len = len; bytes = bs } ≡ parameter_of (encoded code home w number)
+module _ (code number : List ℕ) {ds : List ℕ} (hd : ds ≡ drop 1 number) (home w : Bool) (x : Nature) (hx : is_national_nature x ≡ is_national code home ds)
+    {t : List ℕ} (ht : t ≡ sent code (is_national_nature x) ds) where
+  pub octets_are : {a b : ℕ} → a ≡ 128 * (length t % 2) + nature_number x → b ≡ second_for w → {o p q r : List ℕ} → o ≡ [] → p ≡ o ++ a ∷ []
+      → q ≡ p ++ b ∷ [] → r ≡ q ++ packed (map signal t) → r ≡ encoded code home w number
   unfolding encoded octets fields_for
-  parameter_is home w hn {a} {b} ha hb {bs} q {len} z =
-      let c : len ≡ suc (suc (length (packed (map signal t)))) = omega (arith, packed_count t) in
+  octets_are {a} {b} ha hb eo ep eq er =
       let y : length (map signal t) ≡ length t = length-map t signal in
-      let os : a ∷ b ∷ packed (map signal t) ≡ encoded code home w number = rw (← hd, ← hn, ← ht, y, second_is w, ← hb, ← ha) in
-      rw (c, q) (ap parameter_of os)
+      let os : a ∷ b ∷ packed (map signal t) ≡ encoded code home w number = rw (← hd, ← hx, ← ht, y, second_is w, ← hb, ← nature_is x, ← ha) in
+      er ∙ rw (eq, ep, eo) os

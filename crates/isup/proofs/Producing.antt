@@ -1,5 +1,5 @@
 -- What the steps of producing answer: whether the message is an initial INVITE, each refusal, and the parameter of its calling number.
-use mathlib.Core.Path.{◌≡◌, refl, sym, ◌∙◌}
+use mathlib.Core.Path.{◌≡◌, refl, sym, ap, ◌∙◌}
 use mathlib.Core.Bool.{Bool, true, false, not, ◌&&◌}
 use mathlib.Core.List.{List, [], ◌∷◌}
 use Prim.Native.Nat.{ℕ}
@@ -17,9 +17,9 @@ use Rattle.lines.specs.Index.{index}
 use Rattle.lines.specs.Passes.{at_most96, first_slots, spans_in}
 use Rattle.lines.proofs.Counts.{message_spans}
 use Rattle.judgement.specs.declared.Judged.{Judged}
-use Rattle.judgement.specs.Judges.{Passes, Judges}
+use Rattle.judgement.specs.declared.Refusal.{Refusal}
+use Rattle.judgement.specs.Judges.{Passes, Refuses}
 use Rattle.judgement.specs.Sets.{has}
-use Rattle.isup.specs.declared.Parameter.{Parameter}
 use Rattle.isup.specs.Forward.{is_code, encoded, no_parameter, parameter_of, is_initial_invite, calling_of, produced}
 use Rattle.isup.specs.Steps.{initial_in}
 use Rattle.isup.proofs.Initial.{initial_is, tagged_is, calling_is, calling_any}
@@ -64,13 +64,13 @@ module _ (m code : List ℕ) (home : Bool) {slots : List ℕ} {j : Judged} (p : 
   unfolding initial_in
   is_initial = sym (e ∙ rw p.is_accepted)
 
-  pub gives_42 : not t ≡ true → {r : Parameter} → r ≡ no_parameter 42 0 0 0 → r ≡ produced m code home
+  pub gives_42 : t ≡ false → no_parameter 42 0 0 0 ≡ produced m code home
   unfolding produced
-  gives_42 q f = rw (p.is_accepted, is_initial, not-true t q) f
+  gives_42 q = rw (p.is_accepted, is_initial, q)
 
-  module _ (q : not t ≡ false) where
+  module _ (q : t ≡ true) where
     initial : is_initial_invite p.message ≡ true
-    initial = is_initial ∙ not-false t q
+    initial = is_initial ∙ q
 
     good : is_global (calling_of p.message) ≡ true
     good = calling_is m p.message.line p.header p.message p.is_read p.is_accepted initial
@@ -79,18 +79,17 @@ module _ (m code : List ℕ) (home : Bool) {slots : List ℕ} {j : Judged} (p : 
     number_good f = rw (f, calling_any m p.message p.is_accepted good trunk trunk_good) good
 
     module _ {u : Bool} (g : u ≡ is_code code) where
-      pub gives_41 : not u ≡ true → {r : Parameter} → r ≡ no_parameter 41 0 0 0 → r ≡ produced m code home
+      pub gives_41 : u ≡ false → no_parameter 41 0 0 0 ≡ produced m code home
       unfolding produced
-      gives_41 h f = rw (p.is_accepted, initial, ← g, not-true u h) f
+      gives_41 h = rw (p.is_accepted, initial, ← g, h)
 
-      pub gives_parameter : not u ≡ false → {v : List ℕ} → v ≡ calling_number m trunk → {r : Parameter}
-          → r ≡ parameter_of (encoded code home j.withheld v) → r ≡ produced m code home
+      pub gives_parameter : u ≡ true → {v : List ℕ} → v ≡ calling_number m trunk → {os : List ℕ}
+          → os ≡ encoded code home j.withheld v → parameter_of os ≡ produced m code home
       unfolding produced
       gives_parameter h k f =
-          rw (p.is_accepted, initial, ← g, not-false u h, p.withheld_is)
-          (f ∙ rw (k, calling_any m p.message p.is_accepted good trunk trunk_good))
+          rw (p.is_accepted, initial, ← g, h, p.withheld_is)
+          (ap parameter_of (f ∙ rw (k, calling_any m p.message p.is_accepted good trunk trunk_good)))
 
-pub gives_own : (m code : List ℕ) (home : Bool) {slots : List ℕ} {j : Judged} → Judges m slots j → (j.refusal.reason ≡ 0 → ⊥) → {r : Parameter}
-    → r ≡ no_parameter j.refusal.reason j.refusal.reply j.refusal.detail j.refusal.missing → r ≡ produced m code home
+pub gives_own : (m code : List ℕ) (home : Bool) {r : Refusal} → Refuses m r → no_parameter r.reason r.reply r.detail r.missing ≡ produced m code home
 unfolding produced
-gives_own m code home k n f = rw (k.refuses n) f
+gives_own m code home k = rw k.is_refused

@@ -7,7 +7,6 @@ use native.Mathlib.Omega.{arith}
 use lib.Dec.{eqb}
 use lib.ListN.{length, take, drop, replicate, length-drop, length-append, length-replicate}
 use lib.Seq.{take_at}
-use borrow.Author.Tests.{eqb-true, eqb-false}
 use Rattle.octets.specs.Classes.{among}
 use Rattle.octets.specs.Scans.{all}
 use Rattle.sip.specs.Lines.{Start, Header}
@@ -19,11 +18,12 @@ use Rattle.sip.proofs.Accepted.{not_both}
 use Rattle.sip.proofs.Cases.{replied_reason, written_cases}
 use Rattle.sip.proofs.Screening.{side_0}
 use Rattle.sip.proofs.Change.{alike}
-use Rattle.isup.specs.declared.Caller.{Caller}
+use Rattle.isup.specs.Answers.{Caller}
 use Rattle.isup.specs.Fields.{Fields, octets, fields_of, filler_is_zero}
-use Rattle.lines.specs.Index.{index}
 use Rattle.judgement.specs.Judged.{judged_message}
-use Rattle.judgement.specs.Judges.{Judges}
+use Rattle.judgement.specs.declared.Judged.{Judged}
+use Rattle.judgement.specs.declared.Refusal.{Refusal}
+use Rattle.std.specs.Prelude.{Result, Ok, Err}
 use Rattle.judgement.proofs.Messages.{judges}
 use Rattle.isup.specs.Forward.{is_code, is_national, sent, fields_for, encoded, padded, no_parameter, is_initial_invite, calling_of}
 use Rattle.isup.specs.Forward.{produced_by, produced}
@@ -77,17 +77,14 @@ always_number m r a i =
 
 -- no refusal has the reason 0
 never_zero : (m : List ℕ) (a : Answer) → judgement m ≡ refused a → a.reason ≡ 0 → ⊥
-never_zero m a e z = go (eqb (judged_message m).refusal.reason 0) refl
+never_zero m a e z = go (judged_message m) refl
   where
-    k : Judges m (index m).slots (judged_message m)
-    k = judges m {r = judged_message m} refl refl
-
-    go : (t : Bool) → eqb (judged_message m).refusal.reason 0 ≡ t → ⊥
-    go true p = not_both (sym e ∙ (k.accepts (eqb-true (judged_message m).refusal.reason 0 p)).is_accepted)
-    go false p =
-        let n : (judged_message m).refusal.reason ≡ 0 → ⊥ = eqb-false (judged_message m).refusal.reason 0 p in
-        let q = sym e ∙ k.refuses n in
-        n (cc)
+    go : (r : Result Judged Refusal) → judged_message m ≡ r → ⊥
+    go (Ok j) p = not_both (sym e ∙ (judges m {r = Ok j} (sym p) refl).is_accepted)
+    go (Err r) p =
+        let k = judges m {r = Err r} (sym p) refl in
+        let q = sym e ∙ k.is_refused in
+        k.has_reason (cc)
 
 -- ---- a parameter that is given
 

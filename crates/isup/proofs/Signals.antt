@@ -13,7 +13,7 @@ use Rattle.sip.proofs.Tests.{all_first, all_others, range_low, range_high}
 use Rattle.isup.specs.Fields.{is_signal, packed, signals}
 use Rattle.isup.specs.Forward.{signal}
 use Rattle.isup.specs.Backward.{is_digit_code, digit}
-use Rattle.isup.specs.Steps.{pair_at, is_pair, digits, digit_at}
+use Rattle.isup.specs.Steps.{is_pair, digits}
 
 pub bit_most : (t : Bool) → bit t ≤ 1
 bit_most true = omega arith
@@ -27,7 +27,7 @@ codes_signals [] e = refl
 codes_signals (c ∷ cs) e =
     rw (lt-ltb c 16 (omega (arith, leb-true c 9 (all_first is_digit_code c cs e))), codes_signals cs (all_others is_digit_code c cs e))
 
-digit_least : (b : ℕ) → is_digit b ≡ true → 48 ≤ b
+pub digit_least : (b : ℕ) → is_digit b ≡ true → 48 ≤ b
 unfolding is_digit
 digit_least b e = range_low 48 57 b e
 
@@ -86,18 +86,6 @@ packed_last x y (a ∷ b ∷ cs) e o =
     rw z
     (packed_last y (a + 16 * b) cs (all_others is_signal b cs (all_others is_signal a (b ∷ cs) e)) (omega arith))
 
--- the j-th octet is that of the j-th pair
-pub packed_at : (ds : List ℕ) (j : ℕ) → j < length (packed (map signal ds)) → get_or (packed (map signal ds)) j 0 ≡ pair_at ds j
-unfolding packed pair_at
-packed_at [] j h = absurd (omega arith)
-packed_at (a ∷ []) zero h = let z : a - 48 + 16 * 0 ≡ a - 48 + 16 * (0 - 48) = omega arith in z
-packed_at (a ∷ []) (suc j) h = absurd (omega arith)
-packed_at (a ∷ b ∷ ds) zero h = refl
-packed_at (a ∷ b ∷ ds) (suc j) h =
-    let y : 2 * suc j ≡ suc (suc (2 * j)) = omega arith in
-    let z : suc (suc (2 * j)) + 1 ≡ suc (suc (2 * j + 1)) = omega arith in
-    packed_at ds j (omega arith) ∙ rw (y, z)
-
 -- ---- taken out
 
 pub signals_length : (n : ℕ) (bs : List ℕ) → n ≤ 2 * length bs → length (signals n bs) ≡ n
@@ -109,19 +97,6 @@ signals_length (suc (suc n)) (b ∷ bs) h = ap (λ (k : ℕ). suc (suc k)) (sign
 
 pub digits_length : (n : ℕ) (bs : List ℕ) → n ≤ 2 * length bs → length (digits n bs) ≡ n
 digits_length n bs h = length-map (signals n bs) digit ∙ signals_length n bs h
-
-pub digits_at : (n : ℕ) (bs : List ℕ) (i : ℕ) → i < n → n ≤ 2 * length bs → get_or (digits n bs) i 0 ≡ digit_at bs i
-unfolding signals digit_at
-digits_at zero bs i l h = absurd (omega arith)
-digits_at (suc n) [] i l h = absurd (omega arith)
-digits_at (suc zero) (b ∷ bs) zero l h = refl
-digits_at (suc zero) (b ∷ bs) (suc i) l h = absurd (omega arith)
-digits_at (suc (suc n)) (b ∷ bs) zero l h = refl
-digits_at (suc (suc n)) (b ∷ bs) (suc zero) l h = refl
-digits_at (suc (suc n)) (b ∷ bs) (suc (suc i)) l h =
-    let y : suc (suc i) % 2 ≡ i % 2 = omega arith in
-    let z : suc (suc i) / 2 ≡ suc (i / 2) = omega arith in
-    digits_at n bs i (omega arith) (omega arith) ∙ rw (y, z)
 
 -- ---- every half is a digit code
 

@@ -3,8 +3,8 @@ use Rattle.std.specs.Prelude.{Bool, false, cond, ◌&&◌, ◌||◌, List, [], �
 use Rattle.octets.specs.Scans.{all}
 use Rattle.sip.specs.Values.{is_global}
 use Rattle.causes.specs.Causes.{status}
-use Rattle.isup.specs.declared.Caller.{Caller}
-use Rattle.isup.specs.declared.Status.{Status}
+use Rattle.isup.specs.Answers.{Caller}
+use Rattle.isup.specs.Answers.{Status}
 use Rattle.isup.specs.Fields.{Fields, is_odd, fields_of, filler_is_zero}
 use Rattle.isup.specs.Forward.{is_code, padded}
 

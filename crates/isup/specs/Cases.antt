@@ -4,8 +4,8 @@ use Prim.Native.String.{String}
 use Rattle.octets.specs.Classes.{text}
 use Rattle.sip.specs.Starred.{lines_of, call}
 use Rattle.sip.specs.Hidden.{short_call, ann, plain_to, tagged_to}
-use Rattle.isup.specs.declared.Parameter.{Parameter}
-use Rattle.isup.specs.declared.Caller.{Caller}
+use Rattle.isup.specs.Answers.{Parameter}
+use Rattle.isup.specs.Answers.{Caller}
 use Rattle.isup.specs.Forward.{encoded, no_parameter, parameter_of, produced}
 use Rattle.isup.specs.Backward.{no_caller, caller_with, decoded, status_for}
 

@@ -8,7 +8,7 @@ use Rattle.sip.specs.Lines.{Start, request, response}
 use Rattle.sip.specs.Profile.{column_of}
 use Rattle.sip.specs.Refusals.{Entry, to_tagged, withheld, is_initial, Passed, Judgement, refused, accepted, judgement}
 use Rattle.sip.specs.Readings.{caller_in, number_or}
-use Rattle.isup.specs.declared.Parameter.{Parameter}
+use Rattle.isup.specs.Answers.{Parameter}
 use Rattle.isup.specs.Fields.{Fields, octets}
 
 -- "Country code: 1 to 3 digits, not starting with 0."

@@ -4,3 +4,5 @@ pub mod Backward
 pub mod Promises
 pub mod Cases
 pub mod Steps
+pub mod Answers
+pub mod Views

@@ -7,8 +7,8 @@ use Rattle.sip.specs.Refusals.{Answer, withheld, Passed, refused, accepted, judg
 use Rattle.sip.specs.Readings.{calling_number}
 use Rattle.sip.specs.Screen.{refusing, screened}
 use Rattle.sip.specs.Change.{Changed}
-use Rattle.isup.specs.declared.Parameter.{Parameter}
-use Rattle.isup.specs.declared.Caller.{Caller}
+use Rattle.isup.specs.Answers.{Parameter}
+use Rattle.isup.specs.Answers.{Caller}
 use Rattle.isup.specs.Fields.{Fields, is_signal, octets, is_odd, fields_of, filler_is_zero}
 use Rattle.isup.specs.Forward.{is_code, starts_with, signal, fields_for, encoded, no_parameter, parameter_of, is_initial_invite, calling_of, produced}
 use Rattle.isup.specs.Backward.{is_cut, is_named, is_digit_code, number_from, no_caller, caller_with, decoded}

@@ -1,16 +1,10 @@
 -- What the code's steps answer.
-use Rattle.std.specs.Prelude.{Bool, false, cond, ◌&&◌, List, map, ℕ, ◌+◌, ◌*◌, ◌/◌, ◌%◌, eqb, take, get_or}
+use Rattle.std.specs.Prelude.{Bool, false, cond, ◌&&◌, List, map, ℕ, ◌+◌, ◌*◌, ◌/◌, ◌%◌, eqb, get_or}
 use Rattle.octets.specs.Classes.{bit}
-use Rattle.sip.specs.Values.{is_global}
 use Rattle.sip.specs.Refusals.{Judgement, refused, accepted, judgement}
-use Rattle.isup.specs.declared.Caller.{Caller}
 use Rattle.isup.specs.Fields.{signals}
-use Rattle.isup.specs.Forward.{signal, is_initial_invite}
-use Rattle.isup.specs.Backward.{is_digit_code, digit, no_caller}
-
--- the octet of the j-th pair of digits; a digit that is not there counts 0, as the filler does
-unfoldable pub pair_at : List ℕ → ℕ → ℕ
-pair_at ds j = signal (get_or ds (2 * j) 0) + 16 * signal (get_or ds (2 * j + 1) 0)
+use Rattle.isup.specs.Forward.{is_initial_invite}
+use Rattle.isup.specs.Backward.{is_digit_code, digit}
 
 abbrev initial_by : Judgement → Bool
 initial_by (refused a) = false
@@ -35,7 +29,3 @@ digits n bs = map digit (signals n bs)
 -- the i-th of them
 unfoldable pub digit_at : List ℕ → ℕ → ℕ
 digit_at bs i = digit (cond (eqb (i % 2) 0) (get_or bs (i / 2) 0 % 16) (get_or bs (i / 2) 0 / 16))
-
--- the caller of the number that the first bytes of an array are
-unfoldable pub caller_held : Bool → List ℕ → ℕ → Caller
-caller_held id number len = cond (is_global (take len number)) (record { refusal = 0; id = id; len = len; number = number }) (no_caller 47)

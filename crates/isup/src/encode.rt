@@ -1,119 +1,96 @@
 // A number with its `+` as the octets of the parameter.
-ghost use Rattle.std.specs.Prelude.{◌≡◌, true, cond, ◌∷◌, map, ◌+◌, ◌-◌, ◌*◌, ◌%◌, ◌≤◌, ◌<◌, length, get_or};
+ghost use Rattle.std.specs.Prelude.{◌≡◌, true, [], ◌∷◌, ◌++◌, map, ◌+◌, ◌-◌, ◌*◌, ◌%◌, ◌≤◌, ◌<◌, length};
 ghost use Rattle.octets.specs.Classes.{is_digit};
 ghost use Rattle.octets.specs.Scans.{all};
 ghost use Rattle.sip.specs.Values.{is_global};
 ghost use Rattle.isup.specs.Fields.{packed};
-ghost use Rattle.isup.specs.Forward.{is_national, sent, signal, encoded, padded, parameter_of};
-ghost use Rattle.isup.specs.Steps.{pair_at, second_for};
+ghost use Rattle.isup.specs.Forward.{is_national, sent, signal, encoded};
+ghost use Rattle.isup.specs.Steps.{second_for};
+ghost use Rattle.isup.specs.Views.{nature_number, is_national_nature};
 
 use super::Parameter;
-use super::bytes::{byte_at, narrow};
-use judgement::Refusal;
+use super::fields::{Nature, Presentation};
 
+// The next node is at home, and the number starts with the code.
 fn is_national(code: &[u8], home: bool, digits: &[u8]) -> bool
     ensures { result ≡ is_national code.now home digits.now }
 {
-    if !home {
-        return false;
+    home && octets::same(code, octets::first(digits, code.len()))
+}
+
+fn nature_of(code: &[u8], home: bool, digits: &[u8]) -> Nature
+    ensures { is_national_nature result ≡ is_national code.now home digits.now }
+{
+    if is_national(code, home, digits) {
+        Nature::National
+    } else {
+        Nature::International
     }
-    octets::same(code, octets::first(digits, code.len()))
 }
 
 // The digits that are sent: a national number goes without the code.
-fn sent_part<'a>(code: &[u8], national: bool, digits: &'a [u8]) -> &'a [u8]
-    ensures { result.now ≡ sent code.now national digits.now }
+fn sent_part<'a>(code: &[u8], nature: Nature, digits: &'a [u8]) -> &'a [u8]
+    ensures { result.now ≡ sent code.now (is_national_nature nature) digits.now }
 {
-    if national {
-        return octets::rest(digits, code.len());
+    match nature {
+        Nature::National => octets::rest(digits, code.len()),
+        Nature::International => digits,
     }
-    digits
 }
 
 // Odd/even and nature of address.
-fn first_octet(national: bool, count: usize) -> u8
-    ensures { result ≡ 128 * (count % 2) + cond national 3 4 }
+fn first_octet(nature: Nature, count: usize) -> u8
+    ensures { result ≡ 128 * (count % 2) + nature_number nature }
 {
-    if count % 2 == 0 {
-        if national {
-            return 3;
-        }
-        return 4;
-    }
-    if national {
-        return 131;
-    }
-    132
+    let odd = if count % 2 == 0 { 0 } else { 128 };
+    odd + u8::from(nature)
 }
 
 // Number complete, numbering plan 1, presentation, screening 3.
 fn second_octet(withheld: bool) -> u8
     ensures { result ≡ second_for withheld }
 {
-    if withheld {
-        return 23;
-    }
-    19
+    let presentation = if withheld {
+        Presentation::Restricted
+    } else {
+        Presentation::Allowed
+    };
+    u8::from(presentation)
 }
 
-// The address signal of the i-th digit; 0 past them.
-fn signal_at(digits: &[u8], i: usize) -> usize
-    ensures { result ≡ get_or digits.now i 0 - 48 }
+// One or two digits in an octet, the first in the low half.
+fn octet_of(pair: &[u8]) -> u8
+    requires { (all is_digit pair.now ≡ true) × (0 < length pair.now) × (length pair.now ≤ 2) }
+    ensures { packed (map signal pair.now) ≡ result ∷ [] }
 {
-    let b = byte_at(digits, i);
-    if b < 48 {
-        return 0;
+    match pair {
+        [low, high] => (low - b'0') + 16 * (high - b'0'),
+        [low] => low - b'0',
+        _ => 0,
     }
-    b - 48
 }
 
-// The octet of the j-th pair of digits.
-fn pair(digits: &[u8], j: usize) -> u8
-    requires { (all is_digit digits.now ≡ true) × (j < 8) }
-    ensures { result ≡ pair_at digits.now j }
+// The address signals of the digits, two to an octet.
+fn push_pairs(octets: &mut Parameter, digits: &[u8])
+    requires { (all is_digit digits.now ≡ true) × (length digits.now ≤ 15) × (length octets.old.items ≡ 2) }
+    ensures { octets.new.items ≡ octets.old.items ++ packed (map signal digits.now) }
 {
-    let low = signal_at(digits, 2 * j);
-    let high = signal_at(digits, 2 * j + 1);
-    narrow(low + 16 * high)
-}
-
-// The two first octets and those of the digits, 0 past them.
-fn octets_of(first: u8, second: u8, digits: &[u8]) -> [u8; 10]
-    requires { (all is_digit digits.now ≡ true) × (length digits.now ≤ 15) }
-    ensures { result ≡ padded 10 (first ∷ second ∷ packed (map signal digits.now)) }
-{
-    let mut bytes = [0u8; 10];
-    bytes[0] = first;
-    bytes[1] = second;
-    let n = (digits.len() + 1) / 2;
-    let mut j = 0;
-    while j < n {
-        bytes[2 + j] = pair(digits, j);
-        j += 1;
+    for pair in digits.chunks(2) {
+        octets.push(octet_of(pair));
     }
-    bytes
 }
 
 // The parameter of a number.
 pub(crate) fn encode(code: &[u8], home: bool, withheld: bool, number: &[u8]) -> Parameter
     requires { is_global number.now ≡ true }
-    ensures { result ≡ parameter_of (encoded code.now home withheld number.now) }
+    ensures { result.items ≡ encoded code.now home withheld number.now }
 {
     let digits = octets::rest(number, 1);
-    let national = is_national(code, home, digits);
-    let sent = sent_part(code, national, digits);
-    let first = first_octet(national, sent.len());
-    let second = second_octet(withheld);
-    let bytes = octets_of(first, second, sent);
-    let len = 2 + (sent.len() + 1) / 2;
-    Parameter {
-        refusal: Refusal {
-            reason: 0,
-            reply: 0,
-            detail: 0,
-            missing: 0,
-        },
-        len,
-        bytes,
-    }
+    let nature = nature_of(code, home, digits);
+    let sent = sent_part(code, nature, digits);
+    let mut octets = Parameter::new();
+    octets.push(first_octet(nature, sent.len()));
+    octets.push(second_octet(withheld));
+    push_pairs(&mut octets, sent);
+    octets
 }

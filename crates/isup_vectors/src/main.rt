@@ -3,96 +3,92 @@
 // and the bytes: a message, a parameter, or the eight bytes of a cause, high byte first.
 #![tactic(auto)]
 
-ghost use Rattle.std.specs.Prelude.{◌<◌};
-
 use std::io;
 use std::io::{Read, Write};
 
-fn wide(b: u8) -> usize
-    ensures { result < 256 }
-{
-    b as usize
+// What a case asks for.
+enum Kind {
+    Forward,
+    Backward,
+    Cause,
 }
 
-fn number(high: u8, low: u8) -> usize
-    ensures { result < 65536 }
-{
-    wide(high) * 256 + wide(low)
+impl From<u8> for Kind {
+    fn from(kind: u8) -> Kind {
+        match kind {
+            0 => Kind::Forward,
+            1 => Kind::Backward,
+            _ => Kind::Cause,
+        }
+    }
 }
 
 // Each byte, with a space before it.
 fn print_bytes<W: Write>(to: &mut W, s: &[u8]) -> io::Result<()> {
-    let mut i = 0;
-    while i < s.len() {
-        let b = wide(s[i]);
+    for b in s {
         write!(to, " {b}")?;
-        i += 1;
     }
     Ok(())
 }
 
 fn forward<W: Write>(to: &mut W, message: &[u8], code: &[u8], home: bool) -> io::Result<()> {
-    let p = isup::parameter_of(message, code, home);
-    let r = p.refusal;
-    let reason = r.reason;
-    let reply = r.reply;
-    let detail = r.detail;
-    let missing = r.missing;
-    let len = p.len;
-    write!(to, "{reason} {reply} {detail} {missing} {len}")?;
-    let bytes = p.bytes;
-    print_bytes(to, octets::first(&bytes, len))
+    match isup::parameter_of(message, code, home) {
+        Ok(octets) => {
+            let len = octets.len();
+            write!(to, "0 0 0 0 {len}")?;
+            print_bytes(to, octets.as_slice())
+        }
+        Err(why) => {
+            let r = why.refusal();
+            let reason = r.reason;
+            let reply = r.reply;
+            let detail = r.detail;
+            let missing = r.missing;
+            write!(to, "{reason} {reply} {detail} {missing} 0")
+        }
+    }
 }
 
 fn backward<W: Write>(to: &mut W, bytes: &[u8], code: &[u8]) -> io::Result<()> {
-    let c = isup::caller_of(bytes, code);
-    let refusal = c.refusal;
-    write!(to, "{refusal} ")?;
-    if c.id {
-        to.write_all(b"1 ")?;
-    } else {
-        to.write_all(b"0 ")?;
+    match isup::caller_of(bytes, code) {
+        Ok(caller) => {
+            let id = u64::from(caller.id);
+            let len = caller.number.len();
+            write!(to, "0 {id} {len} ")?;
+            to.write_all(caller.number.as_slice())
+        }
+        Err(why) => {
+            let refusal = why.refusal();
+            write!(to, "{refusal} 0 0")
+        }
     }
-    let len = c.len;
-    write!(to, "{len}")?;
-    if len != 0 {
-        to.write_all(b" ")?;
-        let digits = c.number;
-        to.write_all(octets::first(&digits, len))?;
-    }
-    Ok(())
 }
 
-// Eight bytes as a number, the high one first.
+// Bytes as a number, the high one first; of more than eight the last eight.
 fn cause_of(s: &[u8]) -> u64 {
-    let mut cause: u64 = 0;
-    let mut i = 0;
-    while i < s.len() {
-        cause = (cause << 8) | wide(s[i]) as u64;
-        i += 1;
-    }
-    cause
+    s.iter().fold(0, |cause, b| (cause << 8) | u64::from(*b))
 }
 
 fn status<W: Write>(to: &mut W, bytes: &[u8]) -> io::Result<()> {
-    let answer = isup::status_of(cause_of(bytes));
-    let status = answer.status;
-    let refusal = answer.refusal;
-    write!(to, "{status} {refusal}")
+    match isup::status_of(cause_of(bytes)) {
+        Ok(status) => write!(to, "{status} 0"),
+        Err(why) => {
+            let refusal = why.number();
+            write!(to, "0 {refusal}")
+        }
+    }
 }
 
-fn show<W: Write>(to: &mut W, kind: u8, home: bool, code: &[u8], bytes: &[u8]) -> io::Result<()> {
-    if kind == 0 {
-        forward(to, bytes, code, home)?;
-    } else if kind == 1 {
-        backward(to, bytes, code)?;
-    } else {
-        status(to, bytes)?;
+fn show<W: Write>(to: &mut W, kind: Kind, home: bool, code: &[u8], bytes: &[u8]) -> io::Result<()> {
+    match kind {
+        Kind::Forward => forward(to, bytes, code, home)?,
+        Kind::Backward => backward(to, bytes, code)?,
+        Kind::Cause => status(to, bytes)?,
     }
     to.write_all(b"\n")
 }
 
-// One case; whether there was one that is whole.
+// One case; whether there was one that is whole. Memory is fixed: both spaces are read into again for each case.
 fn case<R: Read, W: Write>(
     input: &mut R,
     to: &mut W,
@@ -103,7 +99,8 @@ fn case<R: Read, W: Write>(
     if streams::read_full(input, &mut head) != 3 {
         return Ok(false);
     }
-    let size = wide(head[2]);
+    let [kind, home, size] = head;
+    let size = usize::from(size);
     if code.len() < size {
         return Ok(false);
     }
@@ -114,7 +111,7 @@ fn case<R: Read, W: Write>(
     if streams::read_full(input, &mut measure) != 2 {
         return Ok(false);
     }
-    let len = number(measure[0], measure[1]);
+    let len = usize::from(u16::from_be_bytes(measure));
     if bytes.len() < len {
         return Ok(false);
     }
@@ -123,8 +120,8 @@ fn case<R: Read, W: Write>(
     }
     show(
         to,
-        head[0],
-        head[1] != 0,
+        Kind::from(kind),
+        home != 0,
         octets::first(code, size),
         octets::first(bytes, len),
     )?;

@@ -5,44 +5,20 @@ use mathlib.Core.List.{List, [], ◌∷◌}
 use mathlib.Core.Option.{Option, none, some}
 use Prim.Native.Nat.{ℕ, zero, suc, ◌+◌, ◌-◌, ◌≤◌}
 use native.Mathlib.Omega.{arith}
-use lib.Dec.{eqb, leb}
+use lib.Dec.{eqb}
 use lib.ListN.{length, take, drop}
-use lib.Seq.{take-length}
-use borrow.Author.Tests.{eqb-true, leb-true}
-use Rattle.octets.specs.Classes.{text, is_token, is_digit, within}
-use Rattle.octets.specs.Scans.{run, decimal, no_number, number, same_text}
-use Rattle.octets.specs.declared.NumberAt.{NumberAt}
+use borrow.Author.Tests.{eqb-true}
+use Rattle.octets.specs.Classes.{text, is_token}
+use Rattle.octets.specs.Scans.{run, same_text}
 use Rattle.sip.specs.declared.ParamAt.{ParamAt}
 use Rattle.sip.specs.declared.ParamsAt.{ParamsAt}
 use Rattle.sip.specs.declared.PartyAt.{PartyAt}
-use Rattle.sip.specs.Values.{is_empty, is_number, address, no_param, sign, param_value, param_rest, param, no_params, with_param, stops, params, no_party, party}
+use Rattle.sip.specs.Values.{is_empty, address, no_param, sign, param_value, param_rest, param, no_params, with_param, stops, params, no_party, party}
 use Rattle.sip.specs.Values.{with_token, tokens, list_or, first_place, is_restricting, is_lacking}
-use Rattle.sip.proofs.Tests.{never, and_right}
-use Rattle.values.specs.declared.ListAt.{ListAt}
-use Rattle.values.specs.Answers.{whole_number, privacy_at, require_at}
+use Rattle.sip.proofs.Tests.{and_right}
+use Rattle.values.specs.Answers.{ListAt, privacy_at, require_at}
 use Rattle.judgement.specs.declared.Tally.{Tally}
 use Rattle.judgement.specs.Tallies.{finding, noted}
-
-module _ (most bound : ℕ) (v : List ℕ) where
-  abbrev good : Bool
-  good = within 1 most (run is_digit v) && leb (decimal 0 (take (run is_digit v) v)) bound
-
-  held : (t : Bool) → good ≡ t → is_number most bound v ≡ true → decimal 0 v ≤ bound
-  unfolding number is_number
-  held true g e =
-      let z : (not (eqb (run is_digit v) 0) && eqb (run is_digit v) (length v)) ≡ true = rw g at e in
-      let r : run is_digit v ≡ length v = eqb-true (run is_digit v) (length v) (and_right (not (eqb (run is_digit v) 0)) (eqb (run is_digit v) (length v)) z) in
-      let l : leb (decimal 0 (take (run is_digit v) v)) bound ≡ true = and_right (within 1 most (run is_digit v)) (leb (decimal 0 (take (run is_digit v) v)) bound) g in
-      leb-true (decimal 0 v) bound (rw (r, take-length v) at l)
-  held false g e = let z : false ≡ true = rw g at e in never (cc)
-
-  pub number_bound : {r : NumberAt} → r ≡ whole_number most bound v → r.value ≤ bound
-  unfolding whole_number
-  number_bound {r} e = rw e (go (is_number most bound v) refl)
-    where
-      go : (t : Bool) → is_number most bound v ≡ t → (cond t (record { size = length v; value = decimal 0 v }) no_number).value ≤ bound
-      go true q = held good refl q
-      go false q = omega arith
 
 -- ---- token lists
 

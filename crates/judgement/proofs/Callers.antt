@@ -1,6 +1,6 @@
 -- The tally's caller is the pages': an accepted field leaves at most two identities, of two one sip and one tel; all such lists are looked at.
 use mathlib.Core.Path.{◌≡◌, refl, ap, ◌∙◌}
-use mathlib.Core.Bool.{Bool, true, false, cond}
+use mathlib.Core.Bool.{Bool, true, false, cond, ◌||◌}
 use mathlib.Core.List.{List, [], ◌∷◌, ◌++◌, map, append-nil, append_assoc}
 use Prim.Native.Nat.{ℕ, suc, ◌≤◌, ◌<◌}
 use native.Mathlib.Omega.{arith}
@@ -10,11 +10,15 @@ use borrow.Author.Tests.{eqb-true, eqb-false}
 use Rattle.sip.specs.declared.IdentityAt.{IdentityAt}
 use Rattle.sip.specs.Values.{identities, schemes, allowed, is_asserted}
 use Rattle.sip.specs.Refusals.{Entry, brought, first_malformed}
-use Rattle.sip.specs.Readings.{Asserted, asserted_by, asserted, sip_or, preferred, caller_in, caller_at}
+use Rattle.sip.specs.Readings.{Asserted, asserted_by, asserted, sip_or, preferred, caller_in}
 use Rattle.sip.proofs.Accepted.{FirstFormed, first_formed}
 use Rattle.sip.proofs.Tests.{never}
 use Rattle.values.specs.Answers.{asserted_of}
 use Rattle.judgement.specs.declared.Tally.{Tally}
+use Rattle.std.specs.Prelude.{Option as RustOption, Some, IfSome}
+use Rattle.sip.specs.declared.CallerAt.{CallerAt}
+use Rattle.judgement.specs.declared.Finding.{Finding}
+use Rattle.judgement.specs.Judges.{caller_found}
 use Rattle.judgement.specs.Tallies.{found_asserted, finding, caller_after, noted, no_tally, tallied}
 use Rattle.judgement.proofs.Schemes.{mask, asserted_of_lem}
 use Rattle.judgement.proofs.Good.{is_asserted_lem}
@@ -40,7 +44,7 @@ module _ (k : ℕ) (v : List ℕ) where
   tels_by (a ∷ xs) js = ap (λ (ts : List Bool). a.identity.tel ∷ ts) (tels_by xs js)
 
   abbrev Right : List Asserted → List IdentityAt → Type 0
-  Right xs js = caller_after (mask (tels xs)) (caller_at (preferred xs)) (found_asserted (asserted_of js)) ≡ caller_at (preferred (xs ++ by js))
+  Right xs js = caller_after (mask (tels xs)) (caller_found (preferred xs)) (found_asserted (asserted_of js)) ≡ caller_found (preferred (xs ++ by js))
 
   -- the first field that asserts
   first_one : (i : IdentityAt) → k ≡ 0 → Right [] (i ∷ [])
@@ -100,7 +104,7 @@ module _ (method : List ℕ) where
   -- k P-Asserted-Identity fields came, and brought these identities, each one at least
   record Known (t : Tally) (k : ℕ) (xs : List Asserted) : Type 0 where
     so_far : SoFar method t (tels xs)
-    told : t.caller ≡ caller_at (preferred xs)
+    told : t.caller ≡ caller_found (preferred xs)
     few : k ≤ length xs
     none_yet : k ≡ 0 → length xs ≡ 0
 
@@ -146,7 +150,7 @@ module _ (method : List ℕ) where
       unfolding brought schemes
       right_here = right k e.value xs (identities e.value) known.few known.none_yet some_here (rw p at f.is_allowed)
 
-      new_caller : (next method t e).caller ≡ caller_at (preferred (xs ++ here))
+      new_caller : (next method t e).caller ≡ caller_found (preferred (xs ++ here))
       unfolding noted finding
       new_caller =
           rw (eqb-true e.number 15 p, known.told, known.so_far.masked, asserted_of_lem e.value asserts) right_here
@@ -161,7 +165,7 @@ module _ (method : List ℕ) where
           }
 
   caller_is : (t : Tally) (k : ℕ) (xs : List Asserted) (es : List Entry) → Known t k xs → first_malformed method (tels xs) es ≡ 0
-      → (tallied method t es).caller ≡ caller_at (preferred (xs ++ asserted k es))
+      → (tallied method t es).caller ≡ caller_found (preferred (xs ++ asserted k es))
   unfolding tallied asserted
   caller_is t k xs [] known h = known.told ∙ rw (append-nil xs)
   caller_is t k xs (e ∷ es) known h =
@@ -169,19 +173,46 @@ module _ (method : List ℕ) where
     where
       go : FirstFormed method (tels xs) e es
           → ((j : ℕ) (ys : List Asserted) → Known (next method t e) j ys → first_malformed method (tels ys) es ≡ 0
-          → (tallied method (next method t e) es).caller ≡ caller_at (preferred (ys ++ asserted j es)))
+          → (tallied method (next method t e) es).caller ≡ caller_found (preferred (ys ++ asserted j es)))
           → (b : Bool) → eqb e.number 15 ≡ b
           → (tallied method (next method t e) es).caller
-          ≡ caller_at (preferred (xs ++ cond b (asserted_by (suc k) e.value ++ asserted (suc k) es) (asserted k es)))
+          ≡ caller_found (preferred (xs ++ cond b (asserted_by (suc k) e.value ++ asserted (suc k) es) (asserted k es)))
       go f others true p =
           others (suc k) (xs ++ asserted_by (suc k) e.value) (taken_in t k xs known e es f p) (rw (all_schemes t k xs known e es f p) f.others)
           ∙ rw (append_assoc xs (asserted_by (suc k) e.value) (asserted (suc k) es))
       go f others false p =
           others k xs (passed_over t k xs known e es f p) (rw (same_schemes t k xs known e es f p) at f.others)
 
-  pub total_caller : (es : List Entry) → first_malformed method [] es ≡ 0 → (tallied method no_tally es).caller ≡ caller_at (caller_in es)
+  pub total_caller : (es : List Entry) → first_malformed method [] es ≡ 0 → (tallied method no_tally es).caller ≡ caller_found (caller_in es)
   unfolding allowed mask caller_in
   total_caller es h =
       caller_is no_tally 0 [] es
       (record { so_far = record { masked = refl; are_allowed = refl }; told = refl; few = omega arith; none_yet = λ z. refl })
       h
+
+-- ---- the fields count from 1
+
+abbrev Named : RustOption CallerAt → Type 0
+Named o = IfSome o (λ (k : CallerAt). 1 ≤ k.field)
+
+after_named : (schemes : ℕ) (o : RustOption CallerAt) (f : Finding) → Named o → Named (caller_after schemes o f)
+after_named schemes o f h = go (eqb schemes 0) (eqb f.schemes 1)
+  where
+    go : (a b : Bool) → Named (cond (a || b) (Some (record { field = cond a 1 2; start = f.start; len = f.len })) o)
+    go true b = omega arith
+    go false true = omega arith
+    go false false = h
+
+module _ (method : List ℕ) where
+  all_named : (t : Tally) (es : List Entry) → Named t.caller → Named (tallied method t es).caller
+  unfolding tallied noted
+  all_named t [] h = h
+  all_named t (e ∷ es) h = all_named (next method t e) es (go (eqb e.number 15) (after_named t.schemes t.caller (finding method e.number e.value) h))
+    where
+      go : (b : Bool) → Named (caller_after t.schemes t.caller (finding method e.number e.value))
+          → Named (cond b (caller_after t.schemes t.caller (finding method e.number e.value)) t.caller)
+      go true k = k
+      go false k = h
+
+  pub total_named : (es : List Entry) → Named (tallied method no_tally es).caller
+  total_named es = all_named no_tally es tt

@@ -3,6 +3,7 @@ use mathlib.Core.Path.{◌≡◌, refl, ◌∙◌}
 use mathlib.Core.Bool.{Bool, true, false, not, ◌&&◌}
 use mathlib.Core.List.{List, [], ◌∷◌, ◌++◌}
 use mathlib.Core.Option.{Option, none, some}
+use Rattle.std.specs.Prelude.{Result, Ok, Err}
 use Prim.Native.Nat.{ℕ}
 use native.Mathlib.Omega.{arith}
 use lib.Dec.{eqb}
@@ -11,8 +12,9 @@ use Rattle.sip.specs.Refusals.{Answer, refusal, when, is_initial, first_of}
 use Rattle.values.specs.declared.RequestUri.{RequestUri}
 use Rattle.judgement.specs.declared.Refusal.{Refusal}
 use Rattle.judgement.specs.declared.Tally.{Tally}
+use Rattle.sip.proofs.Tests.{never}
 use Rattle.judgement.specs.Sets.{lack_at}
-use Rattle.judgement.specs.Judged.{body_length, is_too_long, hopless, column_tagged, early, shared, late, decided, refusal_of}
+use Rattle.judgement.specs.Judged.{body_length, is_too_long, hopless, column_tagged, early, shared, late, decided, checked}
 
 first_some : (xs ys : List (Option Answer)) (a : Answer) → first_of xs ≡ some a → first_of (xs ++ ys) ≡ some a
 first_some [] ys a e = let z : ◌≡◌ {A = ℕ} 0 1 = cc in absurd (omega arith)
@@ -94,20 +96,20 @@ shared_numbered c t rest = numbered_first (shared c t rest) (all_shared c t rest
 
 -- ---- two lists, one after the other
 
-module _ (xs ys : List (Option Answer)) {x : Refusal} (e : x ≡ refusal_of (first_of xs)) where
-  stopped : (x.reason ≡ 0 → ⊥) → x ≡ refusal_of (first_of (xs ++ ys))
-  stopped h = go (first_of xs) refl
+module _ (xs ys : List (Option Answer)) where
+  stopped : {x : Refusal} → Err x ≡ checked (first_of xs) → Err x ≡ checked (first_of (xs ++ ys))
+  stopped {x} e = go (first_of xs) refl
     where
-      go : (o : Option Answer) → first_of xs ≡ o → x ≡ refusal_of (first_of (xs ++ ys))
-      go none q = let z : x.reason ≡ 0 = rw (e, q) in absurd (h z)
+      go : (o : Option Answer) → first_of xs ≡ o → Err x ≡ checked (first_of (xs ++ ys))
+      go none q = let z : Err x ≡ checked none = rw q at e in never (cc)
       go (some a) q = e ∙ rw (q, first_some xs ys a q)
 
-  gone_on : AllNumbered xs → x.reason ≡ 0 → first_of (xs ++ ys) ≡ first_of ys
-  gone_on k h = go (first_of xs) refl (numbered_first xs k)
+  gone_on : {u : Unit} → Ok u ≡ checked (first_of xs) → first_of (xs ++ ys) ≡ first_of ys
+  gone_on {u} e = go (first_of xs) refl
     where
-      go : (o : Option Answer) → first_of xs ≡ o → Numbered o → first_of (xs ++ ys) ≡ first_of ys
-      go none q n = first_none xs ys q
-      go (some a) q n = let z : a.reason ≡ 0 = rw (e, q) at h in absurd (n.0 z)
+      go : (o : Option Answer) → first_of xs ≡ o → first_of (xs ++ ys) ≡ first_of ys
+      go none q = first_none xs ys q
+      go (some a) q = let z : Ok u ≡ checked (some a) = rw q at e in never (cc)
 
 module _ (c : Column) (t : Tally) (u : RequestUri) (rest : ℕ) where
   abbrev tagged : Column
@@ -120,18 +122,18 @@ module _ (c : Column) (t : Tally) (u : RequestUri) (rest : ℕ) where
       (numbered_append (early u) (shared tagged t rest ++ late tagged t u) (early_numbered u)
       (numbered_append (shared tagged t rest) (late tagged t u) (all_shared tagged t rest) (late_numbered tagged t u)))
 
-  module _ {x : Refusal} (e : x ≡ refusal_of (first_of (early u))) where
-    pub stop_early : (x.reason ≡ 0 → ⊥) → x ≡ refusal_of (first_of (decided c t u rest))
+  pub stop_early : {x : Refusal} → Err x ≡ checked (first_of (early u)) → Err x ≡ checked (first_of (decided c t u rest))
+  unfolding decided
+  stop_early e = stopped (early u) (shared tagged t rest ++ late tagged t u) e
+
+  module _ {k : Unit} (e : Ok k ≡ checked (first_of (early u))) {d : Column} (hd : d ≡ tagged) where
+    after : first_of (decided c t u rest) ≡ first_of (shared d t rest ++ late d t u)
     unfolding decided
-    stop_early h = stopped (early u) (shared tagged t rest ++ late tagged t u) e h
+    after = gone_on (early u) (shared tagged t rest ++ late tagged t u) e ∙ rw hd
 
-    module _ (z : x.reason ≡ 0) {d : Column} (hd : d ≡ tagged) {y : Refusal} (f : y ≡ refusal_of (first_of (shared d t rest))) where
-      after : first_of (decided c t u rest) ≡ first_of (shared d t rest ++ late d t u)
-      unfolding decided
-      after = gone_on (early u) (shared tagged t rest ++ late tagged t u) e (early_numbered u) z ∙ rw hd
+    pub stop_shared : {x : Refusal} → Err x ≡ checked (first_of (shared d t rest)) → Err x ≡ checked (first_of (decided c t u rest))
+    stop_shared f = rw after (stopped (shared d t rest) (late d t u) f)
 
-      pub stop_shared : (y.reason ≡ 0 → ⊥) → y ≡ refusal_of (first_of (decided c t u rest))
-      stop_shared h = rw after (stopped (shared d t rest) (late d t u) f h)
-
-      pub go_on : y.reason ≡ 0 → {r : Refusal} → r ≡ refusal_of (first_of (late d t u)) → r ≡ refusal_of (first_of (decided c t u rest))
-      go_on h g = g ∙ rw (after, gone_on (shared d t rest) (late d t u) f (all_shared d t rest) h)
+    pub go_on : {j : Unit} → Ok j ≡ checked (first_of (shared d t rest)) → {r : Result Unit Refusal} → r ≡ checked (first_of (late d t u))
+        → r ≡ checked (first_of (decided c t u rest))
+    go_on f g = g ∙ rw (after, gone_on (shared d t rest) (late d t u) f)

@@ -6,9 +6,10 @@ use Prim.Native.Nat.{ℕ}
 use lib.Dec.{eqb}
 use borrow.Author.Tests.{ne_eqb}
 use Rattle.sip.specs.Values.{is_empty}
+use Rattle.values.specs.Answers.{whole_number}
 use Rattle.judgement.specs.declared.Finding.{Finding}
 use Rattle.judgement.specs.declared.Tally.{Tally}
-use Rattle.judgement.specs.Tallies.{found, only_filled, finding, noted, counted}
+use Rattle.judgement.specs.Tallies.{found, found_whole, only_filled, finding, noted, counted}
 
 -- what is found where no reader is asked
 abbrev pub filled : ℕ → List ℕ → Finding
@@ -19,6 +20,14 @@ module _ (method : List ℕ) (n : ℕ) (v : List ℕ) where
     pub read : (k : ℕ) → eqb k 6 ≡ false → n ≡ k → f ≡ finding [] k v → f ≡ finding method n v
     unfolding finding
     read k z q e = e ∙ rw (q, z)
+
+    pub hops : n ≡ 2 → f ≡ found_whole (whole_number 3 255 v) → f ≡ finding method n v
+    unfolding finding
+    hops q e = e ∙ rw q
+
+    pub cut : n ≡ 8 → f ≡ found_whole (whole_number 5 99999 v) → f ≡ finding method n v
+    unfolding finding
+    cut q e = e ∙ rw q
 
     pub sequence : n ≡ 6 → f ≡ finding method 6 v → f ≡ finding method n v
     sequence q e = e ∙ rw q
@@ -40,6 +49,12 @@ module _ (method : List ℕ) (n : ℕ) (v : List ℕ) where
   module _ (t : Tally) {f : Finding} {r : Tally} where
     pub read_noted : (k : ℕ) → eqb k 6 ≡ false → n ≡ k → f ≡ finding [] k v → r ≡ noted t k f → r ≡ noted t n (finding method n v)
     read_noted k z q e h = h ∙ ap (λ (j : ℕ). noted t j f) (sym q) ∙ ap (noted t n) (read k z q e)
+
+    pub hops_noted : n ≡ 2 → f ≡ found_whole (whole_number 3 255 v) → r ≡ noted t 2 f → r ≡ noted t n (finding method n v)
+    hops_noted q e h = h ∙ ap (λ (j : ℕ). noted t j f) (sym q) ∙ ap (noted t n) (hops q e)
+
+    pub cut_noted : n ≡ 8 → f ≡ found_whole (whole_number 5 99999 v) → r ≡ noted t 8 f → r ≡ noted t n (finding method n v)
+    cut_noted q e h = h ∙ ap (λ (j : ℕ). noted t j f) (sym q) ∙ ap (noted t n) (cut q e)
 
     pub sequence_noted : n ≡ 6 → f ≡ finding method 6 v → r ≡ noted t 6 f → r ≡ noted t n (finding method n v)
     sequence_noted q e h = h ∙ ap (λ (j : ℕ). noted t j f) (sym q) ∙ ap (noted t n) (sequence q e)

@@ -3,6 +3,7 @@ use mathlib.Core.Path.{◌≡◌, refl, sym, ap, ◌∙◌}
 use mathlib.Core.Bool.{Bool, true, false, cond}
 use mathlib.Core.List.{List, [], ◌∷◌}
 use mathlib.Core.Option.{Option, none, some}
+use Rattle.std.specs.Prelude.{Result}
 use Prim.Native.Nat.{ℕ, ◌-◌, ◌≤◌}
 use lib.ListN.{length, drop, length-drop}
 use Rattle.sip.specs.declared.Column.{Column}
@@ -13,19 +14,18 @@ use Rattle.sip.specs.Change.{StartShaped}
 use Rattle.sip.specs.Refusals.{Answer, read, lines, kept, refusal, silent, replied, Entry, message_column, kept_of, passed, refused, accepted}
 use Rattle.sip.specs.Refusals.{judged, judgement}
 use Rattle.sip.proofs.Spans.{StartParts}
-use Rattle.lines.specs.declared.Message.{Message}
-use Rattle.lines.specs.Index.{method_length, uri_length}
+use Rattle.lines.specs.Index.{Head, method_length, uri_length}
 use Rattle.judgement.specs.declared.Refusal.{Refusal}
 use Rattle.judgement.specs.declared.Judged.{Judged}
 use Rattle.judgement.specs.Sets.{kept_set}
 use Rattle.judgement.specs.Entries.{Within, entries_from}
 use Rattle.judgement.specs.Tallies.{no_tally, tallied}
-use Rattle.judgement.specs.Judged.{refusal_of, silenced, judged_from}
-use Rattle.judgement.specs.Judges.{Told, nothing, also, Passes, Judges}
+use Rattle.judgement.specs.Judged.{refusal_of, checked, silenced, judged_from}
+use Rattle.judgement.specs.Judges.{Told, nothing, also, Judges}
 use Rattle.judgement.proofs.Members.{kept_has}
 use Rattle.judgement.proofs.Each.{Each, Listed, entries_listed, kept_listed}
 use Rattle.judgement.proofs.Firsts.{HopsAre, TagIn, TagWithin, total_withheld, hops_there, tags_there, tags_within}
-use Rattle.judgement.proofs.Callers.{total_caller}
+use Rattle.judgement.proofs.Callers.{total_caller, total_named}
 use Rattle.judgement.proofs.Decisions.{Numbered}
 use Rattle.judgement.proofs.Reasons.{body_there, body_is, Fine}
 
@@ -43,8 +43,8 @@ lengthened a n = record { reason = a.reason; reply = a.reply; detail = a.detail;
 
 -- the numbers of the code's refusal are the pages' answer
 answer_is : (ack : Bool) (a : Answer) → a.length ≡ 0
-    → refusal (silenced ack (refusal_of (some a))).reason (silenced ack (refusal_of (some a))).reply (silenced ack (refusal_of (some a))).detail
-    (silenced ack (refusal_of (some a))).missing
+    → refusal (silenced ack (refusal_of a)).reason (silenced ack (refusal_of a)).reply (silenced ack (refusal_of a)).detail
+    (silenced ack (refusal_of a)).missing
     ≡ cond ack (refusal a.reason 0 a.detail a.missing) a
 answer_is true a z = refl
 answer_is false a z = ap (lengthened a) (sym z)
@@ -56,7 +56,7 @@ silenced_reason false r = refl
 -- ---- a message that was read
 
 -- where its parts stand, and its slots
-pub record Reads (m slots : List ℕ) (x : Message) (l : Start) : Type 0 where
+pub record Reads (m slots : List ℕ) (x : Head) (l : Start) : Type 0 where
   pub header : Header
   pub version : List ℕ
   pub is_read : lines m ≡ read l header
@@ -73,7 +73,7 @@ pub record Reads (m slots : List ℕ) (x : Message) (l : Start) : Type 0 where
   pub slots_within : Within m slots
   pub slots_hold : (c : Column) → entries_from (kept_set c) m slots x.count 0 ≡ kept (some c) header.fields
 
-module _ {m slots : List ℕ} {x : Message} {l : Start} (r : Reads m slots x l) where
+module _ {m slots : List ℕ} {x : Head} {l : Start} (r : Reads m slots x l) where
   abbrev pub fs : List Field
   fs = r.header.fields
 
@@ -102,60 +102,49 @@ module _ {m slots : List ℕ} {x : Message} {l : Start} (r : Reads m slots x l) 
     judged_is = read_is ∙ rw kept_is
 
     module _ (method : List ℕ) (o : Option Answer) where
-      abbrev answer : Judged
-      answer = judged_from x (silent l) (before_version l) (kept_set c) (refusal_of o) (tallied method no_tally es) (length left)
+      abbrev answer : Option Answer → Result Judged Refusal
+      answer p = judged_from x (silent l) (before_version l) (kept_set c) (checked p) (tallied method no_tally es) (length left)
 
-      reason_is : answer.refusal.reason ≡ (refusal_of o).reason
-      unfolding judged_from
-      reason_is = silenced_reason (silent l) (refusal_of o)
-
-      refuses_is : Numbered o → ((a : Answer) → o ≡ some a → judged l es left ≡ refused (replied l a)) → (answer.refusal.reason ≡ 0 → ⊥)
-          → judgement m ≡ refused (refusal answer.refusal.reason answer.refusal.reply answer.refusal.detail answer.refusal.missing)
+      refuses_is : (a : Answer) → judged l es left ≡ refused (replied l a) → Numbered (some a) → Judges m slots (answer (some a))
       unfolding judged_from replied
-      refuses_is k applies h = go o refl k
-        where
-          go : (p : Option Answer) → o ≡ p → Numbered p
-              → judgement m ≡ refused (refusal answer.refusal.reason answer.refusal.reply answer.refusal.detail answer.refusal.missing)
-          go none q n = let z : answer.refusal.reason ≡ 0 = reason_is ∙ rw q in absurd (h z)
-          go (some a) q n = judged_is ∙ applies a q ∙ rw (q, answer_is (silent l) a n.1)
+      refuses_is a applies n =
+          record {
+            has_reason = λ z. n.0 (sym (silenced_reason (silent l) (refusal_of a)) ∙ z);
+            is_refused = judged_is ∙ applies ∙ rw (answer_is (silent l) a n.1);
+          }
 
-      module _ (accepted_is : judged l es left ≡ accepted (passed l es left)) (fine : Fine method es left) where
-        passes_is : Passes m slots answer
-        unfolding judged_from
-        passes_is =
-            record {
-              message = passed l es left;
-              header = r.header;
-              is_accepted = judged_is ∙ accepted_is;
-              is_read = r.is_read;
-              short = r.short;
-              few = r.few;
-              within = r.slots_within;
-              silent_is = refl;
-              before_is = refl;
-              line_is = r.line_long;
-              line_within = r.line_within;
-              fields_kept = sym kept_is;
-              kept_is = λ n. rw e (kept_has c n);
-              fields_held = refl;
-              body_is = body_is method es left fine.formed fine.there ∙ rw r.rest_is;
-              body_there = rw left_long (body_there method es left fine.formed fine.there);
-              withheld_is = sym (total_withheld method es);
-              told =
-                  told_each _ _ es (hops_there method es fine.formed fine.unrepeated) (tags_there method es fine.unrepeated)
-                  (tags_within method es fine.unrepeated);
-              caller_is = total_caller method es fine.unmalformed;
-            }
-
-      accepts_is : Numbered o → (o ≡ none → judged l es left ≡ accepted (passed l es left)) → (o ≡ none → Fine method es left)
-          → answer.refusal.reason ≡ 0 → Passes m slots answer
-      accepts_is k accepted_is fine z = go o refl k
-        where
-          go : (p : Option Answer) → o ≡ p → Numbered p → Passes m slots answer
-          go none q n = passes_is (accepted_is q) (fine q)
-          go (some a) q n = let y : a.reason ≡ 0 = rw q at (sym reason_is ∙ z) in absurd (n.0 y)
+      accepts_is : judged l es left ≡ accepted (passed l es left) → Fine method es left → Judges m slots (answer none)
+      unfolding judged_from
+      accepts_is accepted_is fine =
+          record {
+            message = passed l es left;
+            header = r.header;
+            is_accepted = judged_is ∙ accepted_is;
+            is_read = r.is_read;
+            short = r.short;
+            few = r.few;
+            within = r.slots_within;
+            silent_is = refl;
+            before_is = refl;
+            line_is = r.line_long;
+            line_within = r.line_within;
+            fields_kept = sym kept_is;
+            kept_is = λ n. rw e (kept_has c n);
+            fields_held = refl;
+            body_is = body_is method es left fine.formed fine.there ∙ rw r.rest_is;
+            body_there = rw left_long (body_there method es left fine.formed fine.there);
+            withheld_is = sym (total_withheld method es);
+            told =
+                told_each _ _ es (hops_there method es fine.formed fine.unrepeated) (tags_there method es fine.unrepeated)
+                (tags_within method es fine.unrepeated);
+            caller_is = total_caller method es fine.unmalformed;
+            caller_named = total_named method es;
+          }
 
       pub judges_is : Numbered o → ((a : Answer) → o ≡ some a → judged l es left ≡ refused (replied l a))
-          → (o ≡ none → judged l es left ≡ accepted (passed l es left)) → (o ≡ none → Fine method es left) → Judges m slots answer
-      judges_is k applies accepted_is fine =
-          record { refuses = refuses_is k applies; accepts = accepts_is k accepted_is fine }
+          → (o ≡ none → judged l es left ≡ accepted (passed l es left)) → (o ≡ none → Fine method es left) → Judges m slots (answer o)
+      judges_is k applies accepted_is fine = go o refl k
+        where
+          go : (p : Option Answer) → o ≡ p → Numbered p → Judges m slots (answer p)
+          go none q n = accepts_is (accepted_is q) (fine q)
+          go (some a) q n = refuses_is a (applies a q) n

@@ -1,6 +1,6 @@
 -- The pass over the slots, one slot at a time: what is kept is noted with its canonical value, and the rest of the entries is left.
 use mathlib.Core.Path.{◌≡◌, refl, sym, ap, ◌∙◌}
-use mathlib.Core.Bool.{Bool, true, false, not, cond, ◌&&◌}
+use mathlib.Core.Bool.{Bool, true, false, not, cond}
 use mathlib.Core.List.{List, [], ◌∷◌, ◌++◌}
 use Prim.Native.Nat.{ℕ, suc, ◌+◌, ◌-◌, ◌≤◌, ◌<◌, ◌^◌}
 use native.Mathlib.Numerals.{add-one}
@@ -14,7 +14,7 @@ use Rattle.octets.specs.Scans.{run, any}
 use Rattle.sip.specs.Lines.{joined, folded}
 use Rattle.sip.specs.Values.{is_empty}
 use Rattle.sip.proofs.Canonical.{folded_byte, folded_run, folded_le}
-use Rattle.sip.proofs.Tests.{never, and_left, and_right}
+use Rattle.sip.proofs.Tests.{never}
 use Rattle.lines.specs.declared.Slot.{Slot}
 use Rattle.lines.specs.Index.{slot_at}
 use Rattle.emit.specs.Put.{Wrote}
@@ -85,14 +85,6 @@ unfolded_le : (b : Bool) (v : List ℕ) → length (unfolded_by b v) ≤ length 
 unfolded_le true v = folded_le v
 unfolded_le false v = omega arith
 
--- a field that is new has its canonical value in place, and its number did not come before
-module _ (t : Tally) (s : Slot) {a : Bool} (y : a ≡ (not s.folded && not (has t.seen s.number))) (z : a ≡ true) where
-  in_place : s.folded ≡ false
-  in_place = not-true s.folded (and_left (not s.folded) (not (has t.seen s.number)) (sym y ∙ z))
-
-  pub unseen : has t.seen s.number ≡ false
-  unseen = not-true (has t.seen s.number) (and_right (not s.folded) (not (has t.seen s.number)) (sym y ∙ z))
-
 module _ (method m : List ℕ) (kept : ℕ) (t : Tally) (s : Slot) {b : Bool} (e : b ≡ has kept s.number) where
   pub skipped : not b ≡ true → t ≡ taken_up method kept m t s
   unfolding taken_up
@@ -106,10 +98,10 @@ module _ (method m : List ℕ) (kept : ℕ) (t : Tally) (s : Slot) {b : Bool} (e
     low h = has_low 32 kept s.number h held
 
     module _ {v : List ℕ} (hv : v ≡ take s.len (drop s.start m)) {r : Tally} where
-      pub taken_first : {a : Bool} → a ≡ (not s.folded && not (has t.seen s.number)) → a ≡ true
+      pub taken_first : not s.folded ≡ true
           → r ≡ noted t s.number (finding method s.number v) → r ≡ taken_up method kept m t s
       unfolding taken_up value_at
-      taken_first y z h = rw (held, ← hv, in_place t s y z) h
+      taken_first z h = rw (held, ← hv, not-true s.folded z) h
 
       pub taken_again : {f : Finding} → f ≡ finding method s.number (unfolded_by s.folded v) → r ≡ noted t s.number f
           → r ≡ taken_up method kept m t s

@@ -1,4 +1,3 @@
-pub mod Choices
 pub mod Masks
 pub mod Members
 pub mod Bounds

@@ -3,11 +3,12 @@ use mathlib.Core.Path.{◌≡◌, refl, sym, ap, ◌∙◌}
 use mathlib.Core.Bool.{Bool, true, false, not, cond, ◌&&◌, ◌||◌, and-false}
 use mathlib.Core.List.{List, [], ◌∷◌, ◌++◌, map, append-nil}
 use mathlib.Core.Option.{none, some}
-use Prim.Native.Nat.{ℕ, ◌+◌, ◌-◌, ◌^◌, ◌<◌}
+use Prim.Native.Nat.{ℕ, zero, suc, ◌+◌, ◌-◌, ◌^◌, ◌≤◌, ◌<◌}
 use native.Mathlib.Nat.{zero-add}
 use native.Mathlib.Omega.{arith}
 use lib.Bits.{bit_and, and_le_l}
 use lib.Count.{ones, count_trailing_zeros}
+use Rattle.std.proofs.lemmas.Nat.{zero_from_ones}
 use lib.Dec.{eqb}
 use lib.ListN.{length}
 use borrow.Author.Tests.{eqb-true, not-true}
@@ -158,6 +159,13 @@ module _ (c : Column) (empty : Bool) (seen : ℕ) where
         go : (ns : List ℕ) → 0 ≡ length ns → ◌≡◌ {A = Lack} (record { count = 0; lowest = 0 }) (record { count = length ns; lowest = head_or 0 ns })
         go [] q = refl
         go (n ∷ ns) q = absurd (omega arith)
+
+    pub some_lack : (bit_and m (2 ^ 32 - 1 - seen) ≡ 0 → ⊥) → 1 ≤ ones (bit_and m (2 ^ 32 - 1 - seen))
+    some_lack n = go (ones (bit_and m (2 ^ 32 - 1 - seen))) refl
+      where
+        go : (k : ℕ) → ones (bit_and m (2 ^ 32 - 1 - seen)) ≡ k → 1 ≤ k
+        go zero q = absurd (n (zero_from_ones (bit_and m (2 ^ 32 - 1 - seen)) q))
+        go (suc k) q = omega arith
 
     pub lacks_some : (bit_and m (2 ^ 32 - 1 - seen) ≡ 0 → ⊥)
         → record { count = ones (bit_and m (2 ^ 32 - 1 - seen)); lowest = count_trailing_zeros 32 (bit_and m (2 ^ 32 - 1 - seen)) } ≡ lack_at c empty seen

@@ -1,23 +1,28 @@
 -- A message from its bytes to what judging it comes to: by whether it was read.
 use mathlib.Core.Path.{◌≡◌, refl, sym, ap, ◌∙◌}
-use mathlib.Core.Bool.{Bool, true, false, cond}
+use mathlib.Core.Bool.{Bool, true, false, not, cond}
 use mathlib.Core.List.{List}
 use mathlib.Core.Option.{Option, none, some}
+use Rattle.std.specs.Prelude.{Result, Err}
 use Prim.Native.Nat.{ℕ, zero, suc, ◌+◌, ◌≤◌, ◌<◌}
 use native.Mathlib.Omega.{arith}
-use lib.Dec.{leb}
+use lib.Dec.{leb, eqb}
 use lib.ListN.{length, drop}
 use borrow.Author.Tests.{eq-eqb, ne_eqb}
 use Rattle.sip.specs.Lines.{Start, request, response, start, start_size, Header, header}
 use Rattle.sip.specs.Refusals.{refusal, Lines, unread, read, header_lines, start_lines, lines, judgement, refused}
 use Rattle.sip.proofs.Change.{everything}
-use Rattle.lines.specs.declared.Message.{Message}
-use Rattle.lines.specs.Index.{method_length, uri_length, index_of, index}
+use Rattle.lines.specs.Index.{method_of, HasMethod, reason_of, Head, method_length, uri_length, index_of, index}
 use Rattle.lines.proofs.Within.{slots_within}
 use Rattle.judgement.specs.declared.Refusal.{Refusal}
 use Rattle.judgement.specs.declared.Judged.{Judged}
-use Rattle.judgement.specs.Entries.{Within}
-use Rattle.judgement.specs.Judged.{refused_for, judged_lines, judged_message}
+use Rattle.lines.specs.declared.StartLine.{StartLine}
+use Rattle.lines.specs.declared.StartLine.TheVariants.{Request, Status}
+use Rattle.lines.specs.declared.Unread.{Unread}
+use Rattle.lines.specs.declared.Unread.TheVariants.{TooLong, NoStartLine, BadFields, TooManyFields}
+use Rattle.sip.proofs.Tests.{never}
+use Rattle.judgement.specs.Entries.{Within, has_method}
+use Rattle.judgement.specs.Judged.{bare, judged_lines, judged_message}
 use Rattle.judgement.specs.Judges.{Judges}
 use Rattle.judgement.proofs.Parts.{parts}
 use Rattle.judgement.proofs.Judging.{Reads}
@@ -45,10 +50,19 @@ unread_reason m n e = go (leb (length m) 8192) e
     go true q = unread_start m (start m) n q
     go false q = let z : n ≡ 2 = cc in omega arith
 
+-- ---- a request has a method
+
+pub some_method : {l : StartLine} {method uri : ℕ} → has_method l ≡ true → l ≡ Request method uri → method_of l ≡ 0 → ⊥
+some_method {l} {method} {uri} h e z =
+    let k : not (eqb method 0) ≡ true = rw e at h in
+    let y : method ≡ 0 = rw e at z in
+    let w : false ≡ true = rw y at k in
+    never (cc)
+
 -- ---- a message that was read, with its parts
 
 -- a message that was read, with its start line
-pub record Read (m slots : List ℕ) (x : Message) : Type 0 where
+pub record Read (m slots : List ℕ) (x : Head) : Type 0 where
   pub line : Start
   pub reads : Reads m slots x line
 
@@ -105,11 +119,11 @@ module _ (m : List ℕ) where
   lines_judge (request l) r = request_judges l r
   lines_judge (response l) r = response_judges l r
 
-  module _ {r : Judged} (e : r ≡ judged_message m) where
+  module _ {r : Result Judged Refusal} (e : r ≡ judged_message m) where
     unread_judges : (n : (index m).head.reason ≡ 0 → ⊥) → Judges m (index m).slots r
     unfolding judged_message
     unread_judges n =
-        rw (e, ne_eqb (index m).head.reason 0 n) (record { refuses = λ h. not_read n; accepts = λ z. absurd (n z) })
+        rw (e, ne_eqb (index m).head.reason 0 n) (record { has_reason = n; is_refused = not_read n })
 
     read_judges : (index m).head.reason ≡ 0 → Judges m (index m).slots r
     unfolding judged_message
@@ -124,17 +138,16 @@ module _ (m : List ℕ) where
 
   -- ---- what the code answers
 
-  module _ {h : Message} (e : h ≡ (index m).head) where
-    pub unread_judged : (h.reason ≡ 0 → ⊥) → {x : Refusal} → x ≡ record { reason = h.reason; reply = 0; detail = 0; missing = 0 } → {r : Judged}
-        → r ≡ refused_for x → r ≡ judged_message m
+  module _ {h : Head} (e : h ≡ (index m).head) where
+    pub unread_judged : (h.reason ≡ 0 → ⊥) → {x : Refusal} → x ≡ bare h.reason 0 → Err x ≡ judged_message m
     unfolding judged_message
-    unread_judged n hx hr = rw (hr, hx, e, ne_eqb (index m).head.reason 0 (λ z. n (ap (λ (y : Message). y.reason) e ∙ z)))
+    unread_judged n hx = rw (hx, e, ne_eqb (index m).head.reason 0 (λ z. n (ap (λ (y : Head). y.reason) e ∙ z)))
 
     module _ (z : h.reason ≡ 0) where
       head_read : (index m).head.reason ≡ 0
-      head_read = sym (ap (λ (y : Message). y.reason) e) ∙ z
+      head_read = sym (ap (λ (y : Head). y.reason) e) ∙ z
 
-      pub read_judged : {ns : List ℕ} → ns ≡ (index m).slots → {r : Judged} → r ≡ judged_lines m ns h → r ≡ judged_message m
+      pub read_judged : {ns : List ℕ} → ns ≡ (index m).slots → {r : Result Judged Refusal} → r ≡ judged_lines m ns h → r ≡ judged_message m
       unfolding judged_message
       read_judged hs hr = rw (hr, hs, e, eq-eqb (index m).head.reason 0 head_read)
 
@@ -155,3 +168,14 @@ module _ (m : List ℕ) where
 
   pub within : {ns : List ℕ} → ns ≡ (index m).slots → Within m ns
   within hs = λ i. rw hs (slots_within m i)
+
+-- no reason of a message that is not read has the number 0
+pub some_reason : (e : Unread) → reason_of e ≡ 0 → ⊥
+some_reason TooLong z = omega arith
+some_reason NoStartLine z = omega arith
+some_reason BadFields z = omega arith
+some_reason TooManyFields z = omega arith
+
+pub named : (l : StartLine) → HasMethod l → has_method l ≡ true
+named (Request method uri) h = ap not (ne_eqb method 0 (λ z. omega arith))
+named (Status phrase) h = refl

@@ -14,10 +14,9 @@ use Rattle.sip.specs.Profile.{column_of}
 use Rattle.sip.specs.Output.{before_version}
 use Rattle.sip.specs.Refusals.{Answer, refusal, replied, first_of, Entry, kept_of, to_tagged, reasons, passed, refused, accepted, judged_request, judged, judgement}
 use Rattle.sip.proofs.Tests.{never}
-use Rattle.lines.specs.declared.Message.{Message}
+use Rattle.lines.specs.Index.{Head}
 use Rattle.values.specs.Answers.{request_uri}
-use Rattle.judgement.specs.declared.ColumnOf.{ColumnOf}
-use Rattle.judgement.specs.declared.ColumnOf.TheVariants.{Is, Unknown}
+use Rattle.std.specs.Prelude.{Option as RustOption, Some, None}
 use Rattle.judgement.specs.declared.Tally.{Tally}
 use Rattle.judgement.specs.Sets.{column_found, column_at}
 use Rattle.judgement.specs.Tallies.{no_tally, tallied}
@@ -30,17 +29,17 @@ use Rattle.judgement.proofs.Judging.{Reads, fs, left, left_long, read_is, es, li
 
 -- ---- the column
 
-no_column : (o : Option Column) → column_found o ≡ Unknown → o ≡ none
+no_column : (o : Option Column) → column_found o ≡ None → o ≡ none
 no_column none e = refl
 no_column (some c) e = never (cc)
 
-one_column : (o : Option Column) (c : Column) → column_found o ≡ Is c → o ≡ some c
+one_column : (o : Option Column) (c : Column) → column_found o ≡ Some c → o ≡ some c
 one_column none c e = never (cc)
 one_column (some d) c e = let z : d ≡ c = cc in rw z
 
 -- ---- what is judged
 
-module _ {m slots : List ℕ} {x : Message} (l : RequestLine) (r : Reads m slots x (request l)) where
+module _ {m slots : List ℕ} {x : Head} (l : RequestLine) (r : Reads m slots x (request l)) where
   method_part : take x.method m ≡ l.method
   method_part = rw r.method_long r.line_parts.method_part
 
@@ -92,10 +91,10 @@ module _ {m slots : List ℕ} {x : Message} (l : RequestLine) (r : Reads m slots
   no_response : eqb x.method 0 ≡ false
   no_response = rw r.method_long (ne_eqb (length l.method) 0 (λ q. omega (arith, r.shaped.method_long)))
 
-  request_as_lem : (k : ColumnOf) → column_found (column_of l.method false) ≡ k → Judges m slots (request_as m slots x k)
+  request_as_lem : (k : RustOption Column) → column_found (column_of l.method false) ≡ k → Judges m slots (request_as m slots x k)
   unfolding judged_by
-  request_as_lem Unknown q = record { refuses = λ h. unknown (no_column (column_of l.method false) q); accepts = λ z. absurd (omega arith) }
-  request_as_lem (Is c) q = rw (no_response, method_part, uri_part, left_long r) (column_judges c (one_column (column_of l.method false) c q))
+  request_as_lem None q = record { has_reason = λ z. omega arith; is_refused = unknown (no_column (column_of l.method false) q) }
+  request_as_lem (Some c) q = rw (no_response, method_part, uri_part, left_long r) (column_judges c (one_column (column_of l.method false) c q))
 
   pub request_judges : Judges m slots (judged_lines m slots x)
   unfolding judged_lines request_lines column_at

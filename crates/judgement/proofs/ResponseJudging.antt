@@ -3,6 +3,7 @@ use mathlib.Core.Path.{◌≡◌, refl, sym, ap, ◌∙◌}
 use mathlib.Core.Bool.{Bool, true, false, cond}
 use mathlib.Core.List.{List}
 use mathlib.Core.Option.{Option, none, some}
+use Rattle.std.specs.Prelude.{Err}
 use Prim.Native.Nat.{ℕ}
 use native.Mathlib.Omega.{arith}
 use lib.ListN.{length}
@@ -16,12 +17,12 @@ use Rattle.sip.specs.Refusals.{Answer, kept, refusal, replied, first_of, Entry, 
 use Rattle.sip.specs.Refusals.{first_cseq_method, status_of, response_column_of, judged_response, judged, judgement}
 use Rattle.sip.proofs.Change.{cseq_kept}
 use Rattle.sip.proofs.Firsts.{method_kept, column_once}
-use Rattle.lines.specs.declared.Message.{Message}
+use Rattle.lines.specs.Index.{Head}
 use Rattle.judgement.specs.declared.Tally.{Tally}
 use Rattle.judgement.specs.Sets.{has, kept_set}
 use Rattle.judgement.specs.Entries.{first_slot}
 use Rattle.judgement.specs.Tallies.{no_tally, tallied}
-use Rattle.judgement.specs.Judged.{shared, refused_for, status_at, method_at, response_by, judged_by, response_as, response_to, response_lines, judged_lines}
+use Rattle.judgement.specs.Judged.{shared, bare, status_at, method_at, response_by, judged_by, response_as, response_to, response_lines, judged_lines}
 use Rattle.judgement.specs.Judges.{Judges}
 use Rattle.judgement.proofs.Members.{kept_has}
 use Rattle.judgement.proofs.Decisions.{shared_numbered}
@@ -29,7 +30,7 @@ use Rattle.judgement.proofs.Reasons.{shared_is, fine}
 use Rattle.judgement.proofs.Statuses.{status_said, method_is}
 use Rattle.judgement.proofs.Judging.{Reads, fs, left, left_long, read_is, es, kept_is, listed, judges_is}
 
-module _ {m slots : List ℕ} {x : Message} (l : StatusLine) (r : Reads m slots x (response l)) where
+module _ {m slots : List ℕ} {x : Head} (l : StatusLine) (r : Reads m slots x (response l)) where
   -- the method that its first CSeq names
   abbrev named : List ℕ
   named = first_cseq_method (kept none (fs r))
@@ -105,7 +106,7 @@ module _ {m slots : List ℕ} {x : Message} (l : StatusLine) (r : Reads m slots 
 
     response_as_lem : (o : Option Column) → profile ≡ o → Judges m slots (response_as m slots x named o)
     unfolding judged_by
-    response_as_lem none q = record { refuses = λ h. nameless q; accepts = λ z. absurd (omega arith) }
+    response_as_lem none q = record { has_reason = λ z. omega arith; is_refused = nameless q }
     response_as_lem (some c) q = rw (eq-eqb x.method 0 r.method_long, left_long r) (column_judges c q)
 
   pub response_judges : Judges m slots (judged_lines m slots x)
@@ -113,6 +114,6 @@ module _ {m slots : List ℕ} {x : Message} (l : StatusLine) (r : Reads m slots 
   response_judges = rw (eq-eqb x.method 0 r.method_long, status_is, named_is) (go (within 100 699 (status_of l)) refl)
     where
       go : (b : Bool) → within 100 699 (status_of l) ≡ b
-          → Judges m slots (cond b (response_as m slots x named profile) (refused_for (record { reason = 17; reply = 0; detail = 0; missing = 0 })))
+          → Judges m slots (cond b (response_as m slots x named profile) (Err (bare 17 0)))
       go true q = response_as_lem q profile refl
-      go false q = record { refuses = λ h. outside q; accepts = λ z. absurd (omega arith) }
+      go false q = record { has_reason = λ z. omega arith; is_refused = outside q }

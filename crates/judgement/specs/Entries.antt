@@ -1,9 +1,11 @@
 -- The kept fields of a message, out of the slots that reading it left.
-use Rattle.std.specs.Prelude.{Bool, cond, List, [], ◌∷◌, ℕ, zero, suc, ◌+◌, ◌≤◌, eqb, length}
+use Rattle.std.specs.Prelude.{Bool, true, not, cond, List, [], ◌∷◌, ℕ, zero, suc, ◌+◌, ◌≤◌, eqb, length}
 use Rattle.sip.specs.Lines.{folded}
 use Rattle.sip.specs.Refusals.{Entry}
 use Rattle.sip.specs.Readings.{part}
 use Rattle.lines.specs.declared.Slot.{Slot}
+use Rattle.lines.specs.declared.StartLine.{StartLine}
+use Rattle.lines.specs.declared.StartLine.TheVariants.{Request, Status}
 use Rattle.lines.specs.Index.{no_slot, slot_at}
 use Rattle.judgement.specs.Sets.{has}
 
@@ -14,6 +16,11 @@ Within m slots = (i : ℕ) → (slot_at slots i).start + (slot_at slots i).len �
 -- a value without spaces, tabs and line breaks at its ends, in its canonical form: with a line break in it or not
 abbrev pub unfolded_by : Bool → List ℕ → List ℕ
 unfolded_by fold v = cond fold (folded 0 v) v
+
+-- no method is empty, which tells a request from a response
+abbrev pub has_method : StartLine → Bool
+has_method (Request method uri) = not (eqb method 0)
+has_method (Status phrase) = true
 
 -- the value that a slot speaks of, in its canonical form
 unfoldable pub value_at : List ℕ → Slot → List ℕ

@@ -1,5 +1,6 @@
 -- What the code decides, said of the tally: a kept field that is taken up, the reasons 6 to 15 and 17, and the answer.
 use Rattle.std.specs.Prelude.{Bool, true, false, not, cond, ◌&&◌, List, [], ◌∷◌, ◌++◌, ℕ, ◌+◌, ◌-◌, eqb, ltb, length, take, drop}
+use Rattle.std.specs.Prelude.{Option as RustOption, Some, None, Result, Ok, Err}
 use Rattle.std.proofs.Math.Option.{Option, none, some}
 use Rattle.octets.specs.Classes.{text, within}
 use Rattle.octets.specs.Scans.{number, same}
@@ -8,17 +9,13 @@ use Rattle.sip.specs.declared.Column.TheVariants.{Invite, Reinvite, Ack, Bye, Ca
 use Rattle.sip.specs.Profile.{response_column}
 use Rattle.sip.specs.Values.{cseq_method}
 use Rattle.sip.specs.Refusals.{Answer, refusal, when, is_initial, first_of}
-use Rattle.sip.specs.Readings.{no_span, caller_at}
 use Rattle.lines.specs.declared.Slot.{Slot}
-use Rattle.lines.specs.declared.Message.{Message}
-use Rattle.lines.specs.Index.{index}
+use Rattle.lines.specs.Index.{index, Head}
 use Rattle.values.specs.Answers.{request_uri}
 use Rattle.values.specs.declared.RequestUri.{RequestUri}
 use Rattle.judgement.specs.declared.Refusal.{Refusal}
 use Rattle.judgement.specs.declared.Tally.{Tally}
 use Rattle.judgement.specs.declared.Judged.{Judged}
-use Rattle.judgement.specs.declared.ColumnOf.{ColumnOf}
-use Rattle.judgement.specs.declared.ColumnOf.TheVariants.{Is, Unknown}
 use Rattle.judgement.specs.Sets.{has, kept_set, column_at, lack_at}
 use Rattle.judgement.specs.Entries.{value_at, first_slot, entries_from}
 use Rattle.judgement.specs.Tallies.{finding, noted, no_tally, tallied}
@@ -80,38 +77,29 @@ decided c t u rest = let d = column_tagged c (not (eqb t.tagged 0)) in early u +
 
 -- ---- the answer
 
--- the numbers of a refusal; each is 0 where no reason applies
-abbrev pub refusal_of : Option Answer → Refusal
-refusal_of none = record { reason = 0; reply = 0; detail = 0; missing = 0 }
-refusal_of (some a) = record { reason = a.reason; reply = a.reply; detail = a.detail; missing = a.missing }
+-- the refusal that an answer of the pages is
+abbrev pub refusal_of : Answer → Refusal
+refusal_of a = record { reason = a.reason; reply = a.reply; detail = a.detail; missing = a.missing }
+
+-- what asking the reasons comes to: the first that applies refuses
+abbrev pub checked : Option Answer → Result Unit Refusal
+checked none = Ok tt
+checked (some a) = Err (refusal_of a)
+
+-- a refusal that says no more than its reason and its reply
+abbrev pub bare : ℕ → ℕ → Refusal
+bare reason reply = record { reason = reason; reply = reply; detail = 0; missing = 0 }
 
 -- "For ACK it is always 0." Of responses: "reply always 0"
 abbrev pub silenced : Bool → Refusal → Refusal
 silenced true r = record { reason = r.reason; reply = 0; detail = r.detail; missing = r.missing }
 silenced false r = r
 
-abbrev pub refused_for : Refusal → Judged
-refused_for r =
-    record {
-      refusal = r;
-      silent = false;
-      before = 0;
-      line = 0;
-      rest = 0;
-      count = 0;
-      kept = 0;
-      hops = 0;
-      body = 0;
-      withheld = false;
-      tag = no_span;
-      caller = caller_at none;
-    }
-
--- by the first reason that applies and by what the kept fields say
-unfoldable pub judged_from : Message → Bool → ℕ → ℕ → Refusal → Tally → ℕ → Judged
-judged_from h silent before kept r t rest =
-    record {
-      refusal = silenced silent r;
+-- by the first reason that applies, and where none does by what the kept fields say
+unfoldable pub judged_from : Head → Bool → ℕ → ℕ → Result Unit Refusal → Tally → ℕ → Result Judged Refusal
+judged_from h silent before kept (Ok u) t rest =
+    Ok
+    (record {
       silent = silent;
       before = before;
       line = h.line;
@@ -123,19 +111,20 @@ judged_from h silent before kept r t rest =
       withheld = not (eqb t.withheld 0);
       tag = t.tag;
       caller = t.caller;
-    }
+    })
+judged_from h silent before kept (Err r) t rest = Err (silenced silent r)
 
 -- of a request, by the column, the method, the Request-URI and what the kept fields say
-unfoldable pub request_by : Message → Column → List ℕ → RequestUri → Tally → ℕ → Judged
+unfoldable pub request_by : Head → Column → List ℕ → RequestUri → Tally → ℕ → Result Judged Refusal
 request_by h c method u t rest =
-    judged_from h (same (text "ACK") method) (h.method + 1 + h.uri + 1) (kept_set c) (refusal_of (first_of (decided c t u rest))) t rest
+    judged_from h (same (text "ACK") method) (h.method + 1 + h.uri + 1) (kept_set c) (checked (first_of (decided c t u rest))) t rest
 
 -- of a response
-unfoldable pub response_by : Message → Column → Tally → ℕ → Judged
-response_by h c t rest = judged_from h true 0 (kept_set c) (refusal_of (first_of (shared c t rest))) t rest
+unfoldable pub response_by : Head → Column → Tally → ℕ → Result Judged Refusal
+response_by h c t rest = judged_from h true 0 (kept_set c) (checked (first_of (shared c t rest))) t rest
 
 -- of either kind, by the column and the method; a response has no method in its start line
-unfoldable pub judged_by : List ℕ → List ℕ → Message → Column → List ℕ → Judged
+unfoldable pub judged_by : List ℕ → List ℕ → Head → Column → List ℕ → Result Judged Refusal
 judged_by m ns h c method =
     let t = tallied method no_tally (entries_from (kept_set c) m ns h.count 0) in
     let rest = length m - h.rest in
@@ -143,11 +132,11 @@ judged_by m ns h c method =
 
 -- ---- the column of a request
 
-abbrev pub request_as : List ℕ → List ℕ → Message → ColumnOf → Judged
-request_as m ns h Unknown = refused_for (record { reason = 6; reply = 405; detail = 0; missing = 0 })
-request_as m ns h (Is c) = judged_by m ns h c (take h.method m)
+abbrev pub request_as : List ℕ → List ℕ → Head → RustOption Column → Result Judged Refusal
+request_as m ns h None = Err (bare 6 405)
+request_as m ns h (Some c) = judged_by m ns h c (take h.method m)
 
-unfoldable pub request_lines : List ℕ → List ℕ → Message → Judged
+unfoldable pub request_lines : List ℕ → List ℕ → Head → Result Judged Refusal
 request_lines m ns h = request_as m ns h (column_at (take h.method m))
 
 -- ---- the column of a response
@@ -156,31 +145,35 @@ request_lines m ns h = request_as m ns h (column_at (take h.method m))
 unfoldable pub status_at : List ℕ → ℕ
 status_at m = (number 3 999 (take 3 (drop 8 m))).value
 
+-- a status, where it is one of 100 to 699
+abbrev pub known_status : ℕ → RustOption ℕ
+known_status n = cond (within 100 699 n) (Some n) None
+
 -- the method that the CSeq of a slot names; empty where it is malformed, and where there is no slot
 unfoldable pub method_at : List ℕ → Slot → List ℕ
 method_at m s = cseq_method (value_at m s)
 
-abbrev pub response_as : List ℕ → List ℕ → Message → List ℕ → Option Column → Judged
-response_as m ns h method none = refused_for (record { reason = 6; reply = 0; detail = 0; missing = 0 })
+abbrev pub response_as : List ℕ → List ℕ → Head → List ℕ → Option Column → Result Judged Refusal
+response_as m ns h method none = Err (bare 6 0)
 response_as m ns h method (some c) = judged_by m ns h c method
 
 -- by the status and the method
-unfoldable pub response_to : List ℕ → List ℕ → Message → ℕ → List ℕ → Judged
+unfoldable pub response_to : List ℕ → List ℕ → Head → ℕ → List ℕ → Result Judged Refusal
 response_to m ns h status method = response_as m ns h method (response_column (within 200 299 status) method)
 
-unfoldable pub response_lines : List ℕ → List ℕ → Message → Judged
+unfoldable pub response_lines : List ℕ → List ℕ → Head → Result Judged Refusal
 response_lines m ns h =
     let known = response_to m ns h (status_at m) (method_at m (first_slot 6 ns h.count 0)) in
-    cond (within 100 699 (status_at m)) known (refused_for (record { reason = 17; reply = 0; detail = 0; missing = 0 }))
+    cond (within 100 699 (status_at m)) known (Err (bare 17 0))
 
 -- ---- a message by its lines and slots
 
-unfoldable pub judged_lines : List ℕ → List ℕ → Message → Judged
+unfoldable pub judged_lines : List ℕ → List ℕ → Head → Result Judged Refusal
 judged_lines m ns h = cond (eqb h.method 0) (response_lines m ns h) (request_lines m ns h)
 
 -- "Refusal numbers, first that applies": 2 to 15 and 17
-unfoldable pub judged_message : List ℕ → Judged
+unfoldable pub judged_message : List ℕ → Result Judged Refusal
 judged_message m =
     let h = (index m).head in
     let ns = (index m).slots in
-    cond (eqb h.reason 0) (judged_lines m ns h) (refused_for (record { reason = h.reason; reply = 0; detail = 0; missing = 0 }))
+    cond (eqb h.reason 0) (judged_lines m ns h) (Err (bare h.reason 0))

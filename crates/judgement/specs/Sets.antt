@@ -1,12 +1,11 @@
 -- Sets of field numbers as masks: bit n for number n.
 use Rattle.std.specs.Prelude.{Bool, false, not, cond, ◌&&◌, List, [], ◌∷◌, ℕ, ◌+◌, ◌^◌, eqb, length}
+use Rattle.std.specs.Prelude.{Option as RustOption, Some, None}
 use Rattle.std.proofs.Math.Option.{Option, none, some}
 use Rattle.std.specs.Int.Bits.{bit_and}
 use Rattle.sip.specs.declared.Column.{Column}
 use Rattle.sip.specs.Profile.{column_of, ignored, mandatory, numbers, once}
 use Rattle.sip.specs.Refusals.{head_or}
-use Rattle.judgement.specs.declared.ColumnOf.{ColumnOf}
-use Rattle.judgement.specs.declared.ColumnOf.TheVariants.{Is, Unknown}
 use Rattle.judgement.specs.declared.Lack.{Lack}
 
 -- n is in the set
@@ -30,12 +29,12 @@ mandatory_set c empty = set_of (mandatory c empty) numbers
 unfoldable pub once_set : ℕ
 once_set = set_of once numbers
 
-abbrev pub column_found : Option Column → ColumnOf
-column_found none = Unknown
-column_found (some c) = Is c
+abbrev pub column_found : Option Column → RustOption Column
+column_found none = None
+column_found (some c) = Some c
 
 -- the column of a method; an INVITE's initial one
-unfoldable pub column_at : List ℕ → ColumnOf
+unfoldable pub column_at : List ℕ → RustOption Column
 column_at method = column_found (column_of method false)
 
 -- those of the numbers that pass the test
@@ -50,3 +49,7 @@ lack_of c empty seen = pick (λ (n : ℕ). mandatory c empty n && not (has seen 
 -- "the missing count says how many numbers are missing", and the lowest of them
 unfoldable pub lack_at : Column → Bool → ℕ → Lack
 lack_at c empty seen = let ns = lack_of c empty seen in record { count = length ns; lowest = head_or 0 ns }
+
+-- nothing is missing
+abbrev pub no_lack : Lack
+no_lack = record { count = 0; lowest = 0 }

@@ -1,12 +1,13 @@
 -- What a pass over the kept fields carries, and how one field changes it.
 use Rattle.std.specs.Prelude.{Bool, true, not, cond, ◌&&◌, ◌||◌, List, [], ◌∷◌, ℕ, ◌+◌, ◌^◌, eqb}
-use Rattle.std.proofs.Math.Option.{none}
+use Rattle.std.specs.Prelude.{Option, Some, None}
 use Rattle.std.specs.Int.Bits.{bit_and, bit_or}
 use Rattle.sip.specs.declared.CallerAt.{CallerAt}
 use Rattle.sip.specs.Profile.{once}
 use Rattle.sip.specs.Values.{is_empty, is_call_id, is_cseq, party}
-use Rattle.sip.specs.Readings.{no_span, caller_at}
+use Rattle.sip.specs.Readings.{no_span}
 use Rattle.sip.specs.Refusals.{Entry}
+use Rattle.octets.specs.declared.NumberAt.{NumberAt}
 use Rattle.values.specs.declared.AssertedAt.{AssertedAt}
 use Rattle.values.specs.Answers.{whole_number, asserted_at, privacy_at, require_at}
 use Rattle.judgement.specs.declared.Finding.{Finding}
@@ -16,6 +17,10 @@ use Rattle.judgement.specs.Sets.{has}
 -- found in a value that asserts no identity
 abbrev pub found : Bool → ℕ → ℕ → Finding
 found good start len = record { good = good; schemes = 0; start = start; len = len }
+
+-- found in a Max-Forwards or a Content-Length
+abbrev pub found_whole : NumberAt → Finding
+found_whole n = found (not (eqb n.size 0)) 0 n.value
 
 -- found in a P-Asserted-Identity
 abbrev pub found_asserted : AssertedAt → Finding
@@ -59,9 +64,9 @@ abbrev pub fitting : ℕ → Finding → Bool
 fitting schemes f = f.good && eqb (bit_and schemes f.schemes) 0
 
 -- where the caller's number stands after a P-Asserted-Identity in which f was found: in the first, until a sip identity comes in the second
-abbrev pub caller_after : ℕ → CallerAt → Finding → CallerAt
+abbrev pub caller_after : ℕ → Option CallerAt → Finding → Option CallerAt
 caller_after schemes caller f =
-    cond (eqb schemes 0 || eqb f.schemes 1) (record { field = cond (eqb schemes 0) 1 2; start = f.start; len = f.len }) caller
+    cond (eqb schemes 0 || eqb f.schemes 1) (Some (record { field = cond (eqb schemes 0) 1 2; start = f.start; len = f.len })) caller
 
 -- the tally with a field of number n in which f was found
 unfoldable pub noted : Tally → ℕ → Finding → Tally
@@ -127,7 +132,7 @@ unfoldable pub required : Tally → Finding → Tally
 required t f = retagged t (t.tags + f.len) (or_else t.lacking (cond (eqb f.start 0) 0 (t.tags + f.start)))
 
 -- with these for the schemes seen and for where the caller's number stands
-abbrev pub reasserted : Tally → ℕ → CallerAt → Tally
+abbrev pub reasserted : Tally → ℕ → Option CallerAt → Tally
 reasserted t schemes caller =
     record {
       seen = t.seen;
@@ -178,7 +183,7 @@ no_tally =
       tags = 0;
       lacking = 0;
       tag = no_span;
-      caller = caller_at none;
+      caller = None;
     }
 
 -- the tally with these fields after it

@@ -1,27 +1,20 @@
 // A message whose column and method are known. Its fields are tallied at this one place, whatever its kind.
-ghost use Rattle.std.specs.Prelude.{◌≡◌, ◌+◌, ◌≤◌, length};
-ghost use Rattle.judgement.specs.Entries.{Within};
+ghost use Rattle.std.specs.Prelude.{◌≡◌};
+ghost use Rattle.lines.specs.Index.{read_head};
 ghost use Rattle.judgement.specs.Judged.{judged_by};
 
-use crate::{Judged, requests, responses, sets, tallies};
-use lines::Message;
+use crate::read::Read;
+use crate::{Judged, Refusal, requests, responses, sets, tallies};
+use lines::StartLine;
 use sip::Column;
 
 // By the kind, as in `judge_read`.
-pub(crate) fn judge(
-    message: &[u8],
-    m: Message,
-    method: &[u8],
-    c: Column,
-    slots: &[u16; 384],
-) -> Judged
-    requires { (length message.now ≤ 8192) × (m.count ≤ 96) × (m.method + m.uri ≤ 8192) × (m.rest ≤ length message.now) × Within message.now slots.now }
-    ensures { result ≡ judged_by message.now slots.now m c method.now }
+pub(crate) fn judge(read: &Read, method: &[u8], c: Column) -> Result<Judged, Refusal>
+    ensures { result ≡ judged_by read.now.message.now read.now.slots.now (read_head read.now.head) c method.now }
 {
-    let rest = message.len() - m.rest;
-    let t = tallies::tally(message, method, sets::kept_set(c), slots, m.count);
-    if m.method == 0 {
-        return responses::answer(m, c, t, rest);
+    let t = tallies::tally(read, method, sets::kept_set(c));
+    match read.head.start {
+        StartLine::Status { .. } => responses::answer(read, c, t),
+        StartLine::Request { method: size, uri } => requests::answer(read, method, size, uri, c, t),
     }
-    requests::answer(message, m, method, c, t, rest)
 }

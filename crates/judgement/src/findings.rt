@@ -1,103 +1,93 @@
 // What is found in one kept value. Each value is read once.
 ghost use Rattle.std.specs.Prelude.{◌≡◌, true, not, cond, [], ◌+◌, ◌≤◌, length};
 ghost use Rattle.sip.specs.Values.{is_empty};
-ghost use Rattle.judgement.specs.Tallies.{found, only_filled, finding};
+ghost use Rattle.values.specs.Answers.{whole_number};
+ghost use Rattle.judgement.specs.Tallies.{found, found_whole, only_filled, finding};
 
-use super::{Finding, sets};
+use super::Finding;
 
-// A value of which only this is asked.
-fn plain(good: bool) -> Finding
-    ensures { (result ≡ found good 0 0) × (result.start ≡ 0) × (result.len ≡ 0) }
+// Found in a value that asserts no identity.
+fn found(good: bool, start: usize, len: usize) -> Finding
+    ensures { result ≡ found good start len }
 {
     Finding {
         good,
         schemes: 0,
-        start: 0,
-        len: 0,
+        start,
+        len,
     }
 }
 
-pub(crate) fn max_forwards(v: &[u8]) -> Finding
-    ensures { (result ≡ finding [] 2 v.now) × (result.start ≡ 0) × (result.len ≤ 255) }
+// In a value of which only this is asked.
+fn plain(good: bool) -> Finding
+    ensures { (result ≡ found good 0 0) × (result.start ≡ 0) × (result.len ≡ 0) }
 {
-    let hops = values::whole_number(v, 3, 255);
-    Finding {
-        good: hops.size != 0,
-        schemes: 0,
-        start: 0,
-        len: hops.value as usize,
+    found(good, 0, 0)
+}
+
+// A number of at most so many digits, which is at most the bound: a Max-Forwards or a Content-Length.
+pub(crate) fn whole(v: &[u8], most: usize, bound: u32) -> Finding
+    ensures found { result ≡ found_whole (whole_number most bound v.now) }
+    ensures start { result.start ≡ 0 }
+    ensures len { result.len ≤ bound }
+{
+    match values::whole_number(v, most, bound) {
+        Some(n) => found(true, 0, n as usize),
+        None => plain(false),
     }
 }
 
 pub(crate) fn from(v: &[u8]) -> Finding
     ensures { (result ≡ finding [] 3 v.now) × (result.start + result.len ≤ length v.now) }
 {
-    let p = values::party(v);
-    Finding {
-        good: p.good && p.len != 0,
-        schemes: 0,
-        start: p.tag,
-        len: p.len,
+    match values::party(v) {
+        Some(tag) => found(tag.len != 0, tag.start, tag.len),
+        None => plain(false),
     }
 }
 
 pub(crate) fn to(v: &[u8]) -> Finding
     ensures { (result ≡ finding [] 4 v.now) × (result.start ≡ 0) × (result.len ≤ length v.now) }
 {
-    let p = values::party(v);
-    Finding {
-        good: p.good,
-        schemes: 0,
-        start: 0,
-        len: p.len,
+    match values::party(v) {
+        Some(tag) => found(true, 0, tag.len),
+        None => plain(false),
     }
 }
 
-pub(crate) fn content_length(v: &[u8]) -> Finding
-    ensures { (result ≡ finding [] 8 v.now) × (result.start ≡ 0) × (result.len ≤ 99999) }
-{
-    let length = values::whole_number(v, 5, 99999);
-    Finding {
-        good: length.size != 0,
-        schemes: 0,
-        start: 0,
-        len: length.value as usize,
-    }
-}
-
+// Inlined, as `identity` and `privacy`: what a call leaves its answer in is cleared for each field of a message, which takes 1% of a call.
+#[inline(always)]
 pub(crate) fn require(v: &[u8]) -> Finding
     ensures { (result ≡ finding [] 14 v.now) × (result.start ≤ length v.now) × (result.len ≤ length v.now) }
 {
-    let tags = values::require(v);
-    Finding {
-        good: tags.good,
-        schemes: 0,
-        start: tags.first,
-        len: tags.count,
+    match values::require(v) {
+        Some(tags) => found(true, tags.first.unwrap_or(0), tags.count),
+        None => plain(false),
     }
 }
 
+#[inline(always)]
 pub(crate) fn identity(v: &[u8]) -> Finding
     ensures { (result ≡ finding [] 15 v.now) × (result.start + result.len ≤ length v.now) }
 {
-    let a = values::asserted(v);
-    Finding {
-        good: a.schemes != 0,
-        schemes: a.schemes,
-        start: a.start,
-        len: a.len,
+    match values::asserted(v) {
+        Some(a) => Finding {
+            good: true,
+            schemes: a.schemes,
+            start: a.start,
+            len: a.len,
+        },
+        None => plain(false),
     }
 }
 
+#[inline(always)]
 pub(crate) fn privacy(v: &[u8]) -> Finding
     ensures { (result ≡ finding [] 16 v.now) × (result.start ≤ length v.now) × (result.len ≡ 0) }
 {
-    let tokens = values::privacy(v);
-    Finding {
-        good: tokens.good,
-        schemes: 0,
-        start: tokens.first,
-        len: 0,
+    match values::privacy(v) {
+        Some(tokens) => found(true, tokens.first.unwrap_or(0), 0),
+        None => plain(false),
     }
 }
 
@@ -113,17 +103,12 @@ pub(crate) fn cseq(method: &[u8], v: &[u8]) -> Finding
     plain(values::is_cseq(method, v))
 }
 
-fn only_filled(n: usize) -> bool
-    ensures { result ≡ only_filled n }
-{
-    sets::is_one_of(n, 1, 7, 9, 10, 11, 18)
-}
-
-// Of no other field is more asked than that its value is not empty.
+// Of Via, Contact, Content-Type, Route, Reason and Record-Route it is asked that the value is not empty, of the others nothing.
 pub(crate) fn other(n: usize, v: &[u8]) -> Finding
     ensures { (result ≡ found (cond (only_filled n) (not (is_empty v.now)) true) 0 0) × (result.start ≡ 0) × (result.len ≡ 0) }
 {
-    if only_filled(n) {
+    // `matches!` is no part of the jump of `finding`: 80 empty fields took 1.1% more instructions with it.
+    if n == 1 || n == 7 || n == 9 || n == 10 || n == 11 || n == 18 {
         return plain(v.len() != 0);
     }
     plain(true)
@@ -134,12 +119,12 @@ pub(crate) fn finding(method: &[u8], n: usize, v: &[u8]) -> Finding
     ensures { (result ≡ finding method.now n v.now) × (result.start ≤ length v.now + 99999) × (result.len ≤ length v.now + 99999) }
 {
     match n {
-        2 => max_forwards(v),
+        2 => whole(v, 3, 255),
         3 => from(v),
         4 => to(v),
         5 => call_id(v),
         6 => cseq(method, v),
-        8 => content_length(v),
+        8 => whole(v, 5, 99999),
         14 => require(v),
         15 => identity(v),
         16 => privacy(v),

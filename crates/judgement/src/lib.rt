@@ -1,24 +1,28 @@
 // Judges a message: the reasons 2 to 15 and 17, and what the writer needs to know of a message that none of them refuses.
 #![tactic(auto)]
 
-ghost use Rattle.std.specs.Prelude.{◌≡◌, ◌&&◌, ◌+◌, ◌≤◌, leb, length};
+ghost use Rattle.std.specs.Prelude.{◌≡◌, ◌&&◌, leb, length, unwrap_or, IfSome};
 ghost use Rattle.sip.specs.Lines.{folded};
 ghost use Rattle.sip.specs.Values.{is_tagged};
-ghost use Rattle.lines.specs.Index.{index};
+ghost use Rattle.lines.specs.Index.{index, no_slot, read_head};
 ghost use Rattle.judgement.specs.Sets.{has};
-ghost use Rattle.judgement.specs.Entries.{Within, first_slot};
+ghost use Rattle.judgement.specs.Entries.{first_slot};
 ghost use Rattle.judgement.specs.Judged.{judged_lines, judged_message};
 ghost use Rattle.judgement.specs.Judges.{Judges};
 
 mod columns;
 mod findings;
+mod read;
 mod refusals;
 mod requests;
 mod responses;
 mod sets;
 mod tallies;
 
-// Why a message is refused: the pages' reason, reply, detail and missing count.
+use lines::StartLine;
+use read::Read;
+// Why a message is refused: the pages' reason, reply, detail and missing count. Plain numbers, by the form that is a rule of the project
+// (docs/DECISIONS.md): C hands them out as they are.
 #[derive(Clone, Copy)]
 pub struct Refusal {
     pub reason: u64,
@@ -27,14 +31,7 @@ pub struct Refusal {
     pub missing: u64,
 }
 
-// The column of a request's method, the initial one for an INVITE.
-#[derive(Clone, Copy)]
-pub(crate) enum ColumnOf {
-    Is(sip::Column),
-    Unknown,
-}
-
-// Which mandatory fields are missing: how many, and the lowest number (0: none is).
+// Which mandatory fields are missing: how many, one at least, and the lowest number.
 #[derive(Clone, Copy)]
 pub(crate) struct Lack {
     pub count: u64,
@@ -46,6 +43,7 @@ pub(crate) struct Lack {
 // Require: start is the place of the first tag that we lack (0: none), len the number of tags. P-Asserted-Identity: the set of the schemes
 // of its identities, 1 for sip and 2 for tel (0 of other fields), and where the number stands that it tells. Privacy: start is the place
 // of the first token that withholds the caller (0: none).
+// It is no Option: `finding` says of a malformed value too what is noted of it, as where the tag of a From would stand.
 #[derive(Clone, Copy)]
 pub(crate) struct Finding {
     pub good: bool,
@@ -57,7 +55,8 @@ pub(crate) struct Finding {
 // What the kept fields say so far: the set of numbers seen, and of the schemes of asserted identities; the first that came again, the
 // first malformed one; what the first Max-Forwards, To (the length of its tag), Privacy (the place of its first token that withholds the
 // caller), Content-Length and From say; the required tags counted, and the place of the first that we lack; where the caller's number
-// stands. All are numbers: a bool among them is copied with its padding.
+// stands. 0 is none: with Options for what came again, what is malformed and what we lack, 80 empty fields took 2.7% more instructions. The tag
+// of To and the place in Privacy are numbers as the definition `noted` has them, of which only 0 is told from the rest.
 #[derive(Clone, Copy)]
 pub(crate) struct Tally {
     pub seen: u32,
@@ -71,17 +70,17 @@ pub(crate) struct Tally {
     pub tags: usize,
     pub lacking: usize,
     pub tag: sip::Span,
-    pub caller: sip::CallerAt,
+    pub caller: Option<sip::CallerAt>,
 }
 
-// A message that no reason but 1, 16 and 18 refuses (reason 0), or the refusal. Of such a message: whether nothing is ever replied to it, how
-// many bytes of its start line stand before the version, the length of its start line, where the bytes after the empty line start, how
-// many slots there are; the set of fields that it keeps, what its Max-Forwards says, the length of its body, whether its caller is
-// withheld, where the tag stands in its From (no part where it has none), and where the caller's number stands in its P-Asserted-Identity
-// fields, both in the canonical value.
+// A message that no reason but 1, 16 and 18 refuses: whether nothing is ever replied to it, how many bytes of its start line stand before
+// the version, the length of its start line, where the bytes after the empty line start, how many slots there are; the set of fields that
+// it keeps, what its Max-Forwards says, the length of its body, whether its caller is withheld, where the tag stands in its From (no part
+// where it has none), and where the caller's number stands in its P-Asserted-Identity fields, both in the canonical value. That of a response no
+// byte stands before the version, and where a tag is an empty part, is what the definitions `asked` and `Passes` say. Fields go by the numbers
+// of the profile's table, which the definitions and C use.
 #[derive(Clone, Copy)]
 pub struct Judged {
-    pub refusal: Refusal,
     pub silent: bool,
     pub before: usize,
     pub line: usize,
@@ -92,10 +91,10 @@ pub struct Judged {
     pub body: usize,
     pub withheld: bool,
     pub tag: sip::Span,
-    pub caller: sip::CallerAt,
+    pub caller: Option<sip::CallerAt>,
 }
 
-// The set has the number. No number past 31 is in a set.
+// The set has the number.
 pub fn in_set(set: u32, n: usize) -> bool
     ensures { result ≡ has set n }
 {
@@ -113,49 +112,45 @@ pub fn is_tagged(v: &[u8]) -> bool
     to.len != 0
 }
 
-// The first slot of a number; no slot, whose value is empty, where there is none.
-pub fn first_slot(slots: &[u16; 384], count: usize, n: usize) -> lines::Slot
-    ensures { result ≡ first_slot n slots.now count 0 }
+// The first slot of a number.
+pub fn first_slot(slots: &[u16; 384], count: usize, n: usize) -> Option<lines::Slot>
+    ensures { (unwrap_or result no_slot ≡ first_slot n slots.now count 0) × IfSome result (λ s. s.number ≡ n) }
 {
-    let mut i = 0;
-    while i < count {
+    for i in 0..count {
         let s = lines::slot_at(slots, i);
         if s.number == n {
-            return s;
+            return Some(s);
         }
-        i += 1;
     }
-    lines::Slot {
-        number: 0,
-        start: 0,
-        len: 0,
-        folded: false,
-    }
+    None
 }
 
-// A message that was read. A response has no method in its start line, so that its length tells the kind.
-fn judge_read(message: &[u8], m: lines::Message, slots: &[u16; 384]) -> Judged
-    requires { (length message.now ≤ 8192) × (m.count ≤ 96) × (m.method + m.uri ≤ 8192) × (m.rest ≤ length message.now) × Within message.now slots.now }
-    ensures { result ≡ judged_lines message.now slots.now m }
+// By the kind.
+fn judge_read(read: &Read) -> Result<Judged, Refusal>
+    ensures { result ≡ judged_lines read.now.message.now read.now.slots.now (read_head read.now.head) }
 {
-    if m.method == 0 {
-        return responses::judge_response(message, m, slots);
+    match read.head.start {
+        StartLine::Status { .. } => responses::judge_response(read),
+        StartLine::Request { method, .. } => requests::judge_request(read, method),
     }
-    requests::judge_request(message, m, slots)
 }
 
 // Reads and judges a message; the slots are what `lines::read` leaves. The answer is `judged_message`: what the pass over the slots comes to,
 // by masks and tallies. And it `Judges` the message in the pages' words: it refuses with just their numbers, or no reason but 1, 16 and 18
 // applies, and then it and the slots say what the accepted message is.
-pub fn judge(message: &[u8], slots: &mut [u16; 384]) -> Judged
-    ensures { (result ≡ judged_message message.now)
-        × (slots.new ≡ (index message.now).slots)
-        × Judges message.now slots.new result }
+// Inline, so that the compiler sees at each caller that the slots are cleared here, and does not clear them there too.
+#[inline(always)]
+pub fn judge(message: &[u8], slots: &mut [u16; 384]) -> Result<Judged, Refusal>
+    ensures answer { result ≡ judged_message message.now }
+    ensures index { slots.new ≡ (index message.now).slots }
+    ensures judges { Judges message.now slots.new result }
 {
-    let m = lines::read(message, slots);
-    let reason = m.reason;
-    if reason != 0 {
-        return refusals::refused(refusals::refusal(reason, 0, 0, 0));
+    match lines::read(message, slots) {
+        Ok(head) => judge_read(&Read {
+            message,
+            head,
+            slots,
+        }),
+        Err(why) => Err(Refusal::bare(u64::from(why), 0)),
     }
-    judge_read(message, m, slots)
 }

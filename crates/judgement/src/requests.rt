@@ -1,14 +1,16 @@
 // The reasons of a request, first that applies: 6 to 15.
-ghost use Rattle.std.specs.Prelude.{◌≡◌, ◌+◌, ◌≤◌, length, take, drop};
+ghost use Rattle.std.specs.Prelude.{◌≡◌, ◌+◌, ◌-◌, ◌^◌, ◌<◌, length, take, drop};
 ghost use Rattle.octets.specs.Classes.{text};
 ghost use Rattle.octets.specs.Scans.{same};
-ghost use Rattle.sip.specs.Refusals.{is_initial, first_of};
+ghost use Rattle.sip.specs.Refusals.{first_of};
 ghost use Rattle.values.specs.Answers.{request_uri};
-ghost use Rattle.judgement.specs.Entries.{Within};
-ghost use Rattle.judgement.specs.Judged.{hopless, column_tagged, early, late, decided, refusal_of, request_by, request_lines};
+ghost use Rattle.lines.specs.Index.{read_head, method_of};
+ghost use Rattle.lines.specs.declared.StartLine.{StartLine};
+ghost use Rattle.judgement.specs.Judged.{hopless, column_tagged, early, late, decided, checked, request_by, request_lines};
 
-use crate::{ColumnOf, Judged, Refusal, Tally, columns, refusals, sets};
-use lines::Message;
+use crate::read::Read;
+use crate::{Judged, Refusal, Tally, columns, refusals, sets};
+use lines::StartLine;
 use sip::Column;
 use values::RequestUri;
 
@@ -16,23 +18,20 @@ use values::RequestUri;
 fn is_hopless(t: Tally) -> bool
     ensures { result ≡ hopless t }
 {
-    if sets::in_set(t.seen, 2) {
-        return t.hops == 0;
-    }
-    false
+    sets::in_set(t.seen, 2) && t.hops == 0
 }
 
 // Reasons 7 and 8.
-fn early(u: RequestUri) -> Refusal
-    ensures { result ≡ refusal_of (first_of (early u)) }
+fn early(u: RequestUri) -> Result<(), Refusal>
+    ensures { result ≡ checked (first_of (early u)) }
 {
     if u.other {
-        return refusals::refusal(7, 416, 0, 0);
+        return Err(Refusal::bare(7, 416));
     }
     if !u.good {
-        return refusals::refusal(8, 400, 0, 0);
+        return Err(Refusal::bare(8, 400));
     }
-    refusals::refusal(0, 0, 0, 0)
+    Ok(())
 }
 
 // The column of a request whose To has a tag or not.
@@ -40,115 +39,85 @@ fn tagged_column(c: Column, tagged: bool) -> Column
     ensures { result ≡ column_tagged c tagged }
 {
     match c {
-        Column::Invite => {
-            if tagged {
-                return Column::Reinvite;
-            }
+        Column::Invite => if tagged {
+            Column::Reinvite
+        } else {
             Column::Invite
-        }
-        Column::Reinvite => Column::Reinvite,
-        Column::Ack => Column::Ack,
-        Column::Bye => Column::Bye,
-        Column::Cancel => Column::Cancel,
-        Column::Options => Column::Options,
-        Column::InviteSuccess => Column::InviteSuccess,
-        Column::CancelResponse => Column::CancelResponse,
-        Column::OtherResponse => Column::OtherResponse,
-    }
-}
-
-fn is_initial(c: Column) -> bool
-    ensures { result ≡ is_initial c }
-{
-    match c {
-        Column::Invite => true,
-        Column::Reinvite => false,
-        Column::Ack => false,
-        Column::Bye => false,
-        Column::Cancel => false,
-        Column::Options => false,
-        Column::InviteSuccess => false,
-        Column::CancelResponse => false,
-        Column::OtherResponse => false,
+        },
+        _ => c,
     }
 }
 
 // Reasons 13 to 15.
-fn late(c: Column, t: Tally, u: RequestUri) -> Refusal
-    ensures { result ≡ refusal_of (first_of (late c t u)) }
+fn late(c: Column, t: Tally, u: RequestUri) -> Result<(), Refusal>
+    ensures { result ≡ checked (first_of (late c t u)) }
 {
     if is_hopless(t) {
-        return refusals::refusal(13, 483, 0, 0);
+        return Err(Refusal::bare(13, 483));
     }
-    let lacking = t.lacking;
-    if lacking != 0 {
-        return refusals::refusal(14, 420, lacking, 0);
+    if t.lacking != 0 {
+        return Err(Refusal::about(14, 420, t.lacking));
     }
-    if !is_initial(c) {
-        return refusals::refusal(0, 0, 0, 0);
+    if matches!(c, Column::Invite) && !u.called {
+        return Err(Refusal::bare(15, 484));
     }
-    if u.called {
-        return refusals::refusal(0, 0, 0, 0);
-    }
-    refusals::refusal(15, 484, 0, 0)
+    Ok(())
 }
 
+// Beside `is_method` it says the name as the definitions do.
 fn is_ack(method: &[u8]) -> bool
     ensures { result ≡ same (text "ACK") method.now }
 {
     octets::same(b"ACK", method)
 }
 
-fn decide(c: Column, t: Tally, u: RequestUri, rest: usize) -> Refusal
-    ensures { result ≡ refusal_of (first_of (decided c t u rest)) }
+fn decide(c: Column, t: Tally, u: RequestUri, rest: usize) -> Result<(), Refusal>
+    ensures { result ≡ checked (first_of (decided c t u rest)) }
 {
-    let first = early(u);
-    if first.reason != 0 {
-        return first;
-    }
+    early(u)?;
     let column = tagged_column(c, t.tagged != 0);
-    let next = refusals::shared(column, t, rest);
-    if next.reason != 0 {
-        return next;
-    }
+    refusals::shared(column, t, rest)?;
     late(column, t, u)
 }
 
-// What the Request-URI of the start line is.
-fn request_uri(message: &[u8], m: Message) -> RequestUri
-    requires { m.method + m.uri ≤ 8192 }
-    ensures { result ≡ request_uri (take m.uri (drop (m.method + 1) message.now)) }
+// What the Request-URI of the start line is, by the lengths of its method and its Request-URI.
+fn request_uri(read: &Read, size: usize, uri: usize) -> RequestUri
+    requires { size < 2 ^ 32 }
+    ensures { result ≡ request_uri (take uri (drop (size + 1) read.now.message.now)) }
 {
-    let start = m.method + 1;
-    values::request_uri(octets::part(message, start, m.uri))
+    values::request_uri(octets::part(read.message, size + 1, uri))
 }
 
-// A request of that column, by what its kept fields say.
+// A request of that column, by what its kept fields say and by the lengths of its method and its Request-URI.
 pub(crate) fn answer(
-    message: &[u8],
-    m: Message,
+    read: &Read,
     method: &[u8],
+    size: usize,
+    uri: usize,
     c: Column,
     t: Tally,
-    rest: usize,
-) -> Judged
-    requires { m.method + m.uri ≤ 8192 }
-    ensures { result ≡ request_by m c method.now (request_uri (take m.uri (drop (m.method + 1) message.now))) t rest }
+) -> Result<Judged, Refusal>
+    requires { read.now.head.start ≡ StartLine.Request size uri }
+    ensures { result
+        ≡ request_by (read_head read.now.head) c method.now (request_uri (take uri (drop (size + 1) read.now.message.now))) t
+        (length read.now.message.now - read.now.head.rest) }
 {
-    let u = request_uri(message, m);
-    let r = decide(c, t, u, rest);
-    let before = m.method + 1 + m.uri + 1;
-    refusals::judged(m, is_ack(method), before, sets::kept_set(c), r, t, rest)
+    let silent = is_ack(method);
+    if let Err(r) = decide(c, t, request_uri(read, size, uri), read.rest()) {
+        return Err(r.silenced(silent));
+    }
+    let before = size + 1 + uri + 1;
+    Ok(refusals::judged(read, silent, before, sets::kept_set(c), t))
 }
 
-// A request by its lines and slots.
-pub(crate) fn judge_request(message: &[u8], m: Message, slots: &[u16; 384]) -> Judged
-    requires { (length message.now ≤ 8192) × (m.count ≤ 96) × (m.method + m.uri ≤ 8192) × (m.rest ≤ length message.now) × Within message.now slots.now }
-    ensures { result ≡ request_lines message.now slots.now m }
+// A request by its lines and slots and the length of its method.
+pub(crate) fn judge_request(read: &Read, size: usize) -> Result<Judged, Refusal>
+    requires { size ≡ method_of read.now.head.start }
+    ensures { result ≡ request_lines read.now.message.now read.now.slots.now (read_head read.now.head) }
 {
-    let method = octets::first(message, m.method);
+    let method = octets::first(read.message, size);
     match sets::column_of(method) {
-        ColumnOf::Unknown => refusals::refused(refusals::refusal(6, 405, 0, 0)),
-        ColumnOf::Is(c) => columns::judge(message, m, method, c, slots),
+        None => Err(Refusal::bare(6, 405)),
+        Some(c) => columns::judge(read, method, c),
     }
 }

@@ -6,7 +6,7 @@ use Prim.Native.Nat.{ℕ, ◌+◌, ◌≤◌, ◌<◌}
 use native.Mathlib.Omega.{arith}
 use lib.Dec.{eqb, ltb}
 use lib.ListN.{length, drop, get_or}
-use borrow.Author.Tests.{ne_eqb, eqb-false, lt-ltb, le-ltb, ltb-true, ltb-false, le-leb, lt-leb, not-false}
+use borrow.Author.Tests.{ne_eqb, eqb-false, lt-ltb, ltb-true, ltb-false, le-leb, lt-leb, not-false}
 use Rattle.octets.specs.Classes.{is_value}
 use Rattle.octets.specs.Scans.{run}
 use Rattle.octets.proofs.Runs.{run_at}
@@ -14,11 +14,8 @@ use Rattle.octets.proofs.Runs.{run_at}
 -- ---- one byte
 
 module _ (b : ℕ) where
-  pub low_control : b < 32 → true ≡ (ltb b 32 || eqb b 127)
+  pub low_control : b < 32 → ltb b 32 ≡ (ltb b 32 || eqb b 127)
   low_control h = rw (lt-ltb b 32 h)
-
-  pub other_control : 32 ≤ b → eqb b 127 ≡ (ltb b 32 || eqb b 127)
-  other_control h = rw (le-ltb b 32 h)
 
   visible : 32 ≤ b → (b ≡ 127 → ⊥) → b < 256 → is_value b ≡ true
   unfolding is_value

@@ -108,6 +108,9 @@ module _ (number at : ℕ) (v : List ℕ) {p : Span} (hp : p ≡ value_part v) w
           let n : any is_break v ≡ false = sym hd ∙ not-true d q in
           slot_by_lem (sym (ap (any is_break) (trim_part v) ∙ any_take is_break (length (trim is_gap v)) (drop (run is_gap v) v) (any_drop is_break (run is_gap v) v n)))
 
+      pub unfolded_slot : {d : Bool} → d ≡ any is_break v → d ≡ false → record { number = number; start = i; len = l; folded = d } ≡ slot_for number at v
+      unfolded_slot {d} hd q = rw q (plain_slot hd (rw q))
+
       pub broken_slot :
           {g e : ℕ} → g ≡ p.start → e ≡ g + l → {f : Bool} → f ≡ any is_break (take (e - g) (drop g v))
           → record { number = number; start = i; len = l; folded = f } ≡ slot_for number at v

@@ -13,10 +13,9 @@ use Rattle.sip.specs.Refusals.{Lines, unread, read, lines}
 use Rattle.sip.specs.Readings.{value_spans, place, spans}
 use Rattle.sip.specs.declared.Span.{Span}
 use Rattle.sip.proofs.Sizes.{read_inv}
-use Rattle.lines.specs.Index.{slot_of, slots_of, slot_at, index}
+use Rattle.lines.specs.Index.{slot_of, slots_of, slot_at, index, Head}
 use Rattle.lines.specs.Passes.{first_slots, span_of, spans_in, counted_in, counting}
 use Rattle.lines.specs.declared.Slot.{Slot}
-use Rattle.lines.specs.declared.Message.{Message}
 use Rattle.lines.specs.declared.slots.Counted.{Counted}
 use Rattle.lines.proofs.Values.{eqb_suc}
 use Rattle.lines.proofs.Packs.{first_all}
@@ -105,7 +104,7 @@ slots_few at (f ∷ fs) = go (eqb (number_of f.name) 0) (slots_few (at + length 
     go true l = omega arith
     go false l = omega arith
 
-pub count_few : (m : List ℕ) {r : Message} → r ≡ (index m).head → r.count ≤ 96
+pub count_few : (m : List ℕ) {r : Head} → r ≡ (index m).head → r.count ≤ 96
 unfolding index
 count_few m {r} e = rw e (go (lines m) refl)
   where

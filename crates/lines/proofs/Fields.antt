@@ -16,9 +16,18 @@ use Rattle.octets.proofs.Runs.{run_stop, run_end}
 use Rattle.sip.specs.Lines.{Shape, shape, shape_of, size, value_size}
 use Rattle.lines.specs.Places.{breaks, field_places, field_at}
 use Rattle.lines.specs.Sizes.{colon_size, end_at, value_end}
+use Rattle.lines.specs.Passes.{ValueStands}
 use Rattle.lines.specs.declared.FieldAt.{FieldAt}
-use Rattle.lines.specs.declared.FieldAt.TheVariants.{Found, Bad}
+use Rattle.lines.specs.declared.field.ValueAt.{ValueAt}
+use Rattle.std.specs.Prelude.{Option as Answer, None, Some}
 use Rattle.lines.proofs.Values.{value_fits, value_breaks}
+
+-- what the reader answers
+abbrev pub Found : ℕ → ℕ → ℕ → Bool → Answer FieldAt
+Found x v e d = Some (record { name = x; value = v; end = e; folded = d })
+
+abbrev pub Bad : Answer FieldAt
+Bad = None
 
 -- ---- spaces or tabs, and a colon
 
@@ -157,9 +166,9 @@ module _ (s : List ℕ) (at : ℕ) {x : ℕ} (hx : x ≡ at + run is_token (drop
     colon_long : v - x ≡ colon_size (drop x s)
     colon_long = omega arith
 
-    pub colonless : v ≤ x → Bad ≡ field_at s at
+    no_colon_there : v ≤ x → Bad ≡ field_at s at
     unfolding field_at
-    colonless l = rw (no_sign (drop at s) name_long at_name colon_long (omega arith) (omega arith))
+    no_colon_there l = rw (no_sign (drop at s) name_long at_name colon_long (omega arith) (omega arith))
 
     module _ (l : x < v) {e : ℕ} (he : e ≡ value_end s v) where
       by_value : field_at s at ≡ field_places s at (shape_of (x - at) (v - x - 1) (value_size 0 (drop v s)))
@@ -192,6 +201,16 @@ module _ (s : List ℕ) (at : ℕ) {x : ℕ} (hx : x ≡ at + run is_token (drop
             let c : v + (e - v) ≡ e = omega (arith, sized.1) in
             rw (by_value, sized.0, a, b, c, folds, hd)
 
+  pub colonless : at < x → x ≡ x + colon_size (drop x s) → Bad ≡ field_at s at
+  colonless h e = no_colon_there h e (omega arith)
+
+  -- by what is read of its value
+  pub endless_value : at < x → {v : ℕ} → v ≡ x + colon_size (drop x s) → x < v → ValueStands s v None → Bad ≡ field_at s at
+  endless_value h hv l w = endless h hv l refl w.value_stands
+
+  pub found_value : at < x → {v : ℕ} → v ≡ x + colon_size (drop x s) → x < v → {f : ValueAt} → ValueStands s v (Some f) → Found x v f.end f.folded ≡ field_at s at
+  found_value h hv l w = found h hv l w.value_stands.0 w.value_stands.1 w.value_stands.2
+
 -- ---- what a caller knows of a field that is found
 
 pub record FieldRead (s : List ℕ) (at x v e : ℕ) (d : Bool) : Type 0 where
@@ -202,7 +221,7 @@ pub record FieldRead (s : List ℕ) (at x v e : ℕ) (d : Bool) : Type 0 where
   pub end_is : e ≡ v + parts.value
   pub folded_is : d ≡ breaks parts.value (drop v s)
 
-module _ (s : List ℕ) (at : ℕ) {r : FieldAt} (hr : r ≡ field_at s at) where
+module _ (s : List ℕ) (at : ℕ) {r : Answer FieldAt} (hr : r ≡ field_at s at) where
   pub field_bad : r ≡ Bad → shape (drop at s) ≡ none
   unfolding field_at
   field_bad q = go (shape (drop at s)) (sym q ∙ hr)
@@ -217,9 +236,14 @@ module _ (s : List ℕ) (at : ℕ) {r : FieldAt} (hr : r ≡ field_at s at) wher
     field_read = go (shape (drop at s)) refl (sym q ∙ hr)
       where
         go : (o : Option Shape) → shape (drop at s) ≡ o → Found x v e d ≡ field_places s at o → FieldRead s at x v e d
-        go none p y = let z : ◌≡◌ {A = ℕ} 0 1 = cc in absurd (omega arith)
+        go none p y = cc
         go (some g) p y =
-            record { parts = g; reads = p; name_is = cc; value_is = cc; end_is = cc; folded_is = cc }
+            let z : ◌≡◌ {A = FieldAt} (record { name = x; value = v; end = e; folded = d }) (record { name = at + g.name; value = at + g.name + g.gap + 1; end = at + g.name + g.gap + 1 + g.value; folded = breaks g.value (drop (at + g.name + g.gap + 1) s) }) = cc in
+            let a : x ≡ at + g.name = ap (λ (f : FieldAt). f.name) z in
+            let b : v ≡ at + g.name + g.gap + 1 = ap (λ (f : FieldAt). f.value) z in
+            let c : e ≡ at + g.name + g.gap + 1 + g.value = ap (λ (f : FieldAt). f.end) z in
+            let f : d ≡ breaks g.value (drop (at + g.name + g.gap + 1) s) = ap (λ (f : FieldAt). f.folded) z in
+            record { parts = g; reads = p; name_is = a; value_is = rw a b; end_is = rw b c; folded_is = rw b f }
 
     pub field_fits : (at < x) × (x < v) × (v ≤ e) × (e + 2 ≤ length s)
     field_fits = let f = field_read in let g = shape_fits (drop at s) f.parts f.reads in omega (arith, f, g, length-drop at s)

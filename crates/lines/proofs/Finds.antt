@@ -17,9 +17,9 @@ use Rattle.sip.proofs.Change.{lines_inv}
 use Rattle.lines.specs.Places.{field_at}
 use Rattle.lines.specs.Finds.{named_from, field_named, FieldNamedRead}
 use Rattle.lines.specs.declared.FieldAt.{FieldAt}
-use Rattle.lines.specs.declared.FieldAt.TheVariants.{Found, Bad}
+use Rattle.std.specs.Prelude.{Option as Answer, Some}
 use Rattle.lines.proofs.Values.{never}
-use Rattle.lines.proofs.Fields.{FieldRead, field_bad, field_read, field_fits}
+use Rattle.lines.proofs.Fields.{Bad, FieldRead, field_bad, field_read, field_fits}
 use Rattle.lines.proofs.Headers.{field_line}
 use Rattle.lines.proofs.FirstLines.{first_line}
 
@@ -57,12 +57,18 @@ module _ (s name : List ℕ) (first at : ℕ) (e : named_from 0 name (drop first
   pub over : length s ≤ at → false ≡ named_from 0 name (drop first s)
   over l = sym (e ∙ rw (drop_of_length-le s l) (named_nil name))
 
-  module _ {r : FieldAt} (hr : r ≡ field_at s at) where
+  module _ {r : Answer FieldAt} (hr : r ≡ field_at s at) where
     pub no_field : r ≡ Bad → false ≡ named_from 0 name (drop first s)
     no_field q = sym (e ∙ named_bad name (drop at s) (field_bad s at hr q))
 
-    module _ {x v n : ℕ} {d : Bool} (q : r ≡ Found x v n d) where
-      fits : (at < x) × (x < v) × (v ≤ n) × (n + 2 ≤ length s)
+    module _ {f : FieldAt} (q : r ≡ Some f) where
+      abbrev x : ℕ
+      x = f.name
+
+      abbrev n : ℕ
+      n = f.end
+
+      fits : (at < x) × (x < f.value) × (f.value ≤ n) × (n + 2 ≤ length s)
       fits = field_fits s at hr q
 
       pub name_after : at ≤ x
@@ -80,10 +86,10 @@ module _ (s name : List ℕ) (first at : ℕ) (e : named_from 0 name (drop first
       module _ {b : Bool} (hb : b ≡ same_text name (take (x - at) (drop at s))) where
         by_name : named_from 0 name (drop first s) ≡ (b || named_from 0 name (drop (n + 2) s))
         by_name =
-            let f : FieldRead s at x v n d = field_read s at hr q in
-            let y : x - at ≡ f.parts.name = omega (arith, f) in
-            let z : at + size f.parts ≡ n + 2 = omega (arith, f) in
-            e ∙ named_next name (drop at s) f.parts f.reads ∙ rw (hb, y, drop-drop (size f.parts) at s, z)
+            let g : FieldRead s at x f.value n f.folded = field_read s at hr q in
+            let y : x - at ≡ g.parts.name = omega (arith, g) in
+            let z : at + size g.parts ≡ n + 2 = omega (arith, g) in
+            e ∙ named_next name (drop at s) g.parts g.reads ∙ rw (hb, y, drop-drop (size g.parts) at s, z)
 
         pub hit : b ≡ true → true ≡ named_from 0 name (drop first s)
         hit y = sym (by_name ∙ rw y)

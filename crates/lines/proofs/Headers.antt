@@ -12,7 +12,8 @@ use Rattle.sip.specs.Lines.{Start, start, start_size, starts_crlf, Shape, shape,
 use Rattle.sip.specs.Refusals.{unread, lines, header_lines}
 use Rattle.sip.proofs.Fields.{no_crlf, field_here}
 use Rattle.sip.proofs.Headers.{header_next}
-use Rattle.lines.specs.Passes.{start_lengths}
+use Rattle.std.specs.Prelude.{None}
+use Rattle.lines.specs.Places.{start_at}
 use Rattle.lines.proofs.Values.{never}
 use Rattle.lines.proofs.Starts.{no_start}
 use Rattle.lines.proofs.Fields.{FieldRead}
@@ -24,19 +25,15 @@ unfolding lines
 lines_long m l = rw (lt-leb (length m) 8192 l)
 
 module _ (m : List ℕ) (l : length m ≤ 8192) where
-  pub lines_unbegun : {n : ℕ} → n ≡ (start_lengths m).line → n < 1 → lines m ≡ unread 3
+  pub lines_unbegun : None ≡ start_at m → lines m ≡ unread 3
   unfolding lines
-  lines_unbegun e h = rw (le-leb (length m) 8192 l, no_start m e h)
+  lines_unbegun e = rw (le-leb (length m) 8192 l, no_start m e)
 
   pub lines_begun : (k : Start) → start m ≡ some k → lines m ≡ header_lines k (header 0 (drop (start_size k) m))
   unfolding lines
   lines_begun k r = rw (le-leb (length m) 8192 l, r)
 
 -- ---- the header at a place
-
-pub header_nil : header 0 [] ≡ none
-unfolding header
-header_nil = refl
 
 pub header_done : (s : List ℕ) → starts_crlf s ≡ true → header 0 s ≡ some (record { fields = []; rest = drop 2 s })
 unfolding header starts_crlf

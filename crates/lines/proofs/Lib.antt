@@ -1,4 +1,3 @@
-pub mod Classes
 pub mod Values
 pub mod Trims
 pub mod Starts

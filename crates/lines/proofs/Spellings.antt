@@ -1,19 +1,23 @@
 -- The listed names as a list of spellings, of which a name can only be one of its own length.
 use mathlib.Core.Path.{◌≡◌, refl, sym, ap, ◌∙◌}
-use mathlib.Core.Bool.{Bool, true, false, cond, ◌&&◌, ◌||◌, and-eq-true_iff}
+use mathlib.Core.Bool.{Bool, true, false, cond, ◌&&◌, ◌||◌, and-eq-true_iff, and-false}
 use mathlib.Core.List.{List, [], ◌∷◌}
-use mathlib.Core.Logic.{◌⊎◌, ⊎_elim, inl, inr}
+use Rattle.std.specs.Prelude.{Option as Answer, None, Some, unwrap_or, IfSome}
+use Rattle.std.specs.Char.{to_ascii_lowercase}
+use Rattle.std.proofs.Math.Seq.{drop-cons}
 use mathlib.Core.Option.{Option, none, some}
-use Prim.Native.Nat.{ℕ, ◌+◌, ◌-◌, ◌≤◌, ◌<◌}
+use Prim.Native.Nat.{ℕ, suc, ◌+◌, ◌≤◌, ◌<◌}
 use native.Mathlib.Omega.{arith}
 use lib.Dec.{eqb, leb, ltb}
-use lib.ListN.{length, get_or}
+use lib.ListN.{length, drop, get_or, drop_of_length-le}
 use types.Run.{OneOf}
-use borrow.Author.Tests.{eqb-true, eqb-false, ne_eqb, leb-true, lt-ltb, le-ltb, ltb-true}
-use Rattle.octets.specs.Classes.{text, within, among}
+use borrow.Author.Tests.{eqb-true, eqb-false, ne_eqb, leb-true, lt-leb, le-leb, ltb-true, ltb-false}
+use Rattle.octets.specs.Classes.{text, within, among as one_of}
 use Rattle.octets.specs.Scans.{lower, same_text}
 use Rattle.octets.proofs.Texts.{same_text_length}
 use Rattle.sip.specs.Profile.{Row, rows, is_compact, names, lookup, number_of}
+use Rattle.sip.proofs.Tests.{range_low, range_high}
+use Rattle.lines.specs.Passes.{among}
 use Rattle.lines.proofs.Values.{never}
 
 pub record Spelling : Type 0 where
@@ -75,20 +79,61 @@ module _ (k : ℕ) (n : List ℕ) {x : ℕ} where
   by_length h e =
       e ∙ ap (λ (i : ℕ). pick (of_length i (spellings rows)) n) (sym h) ∙ sym (lookup_pick rows n ∙ pick_length (spellings rows) n)
 
--- ---- a chain of tests
+-- ---- a table of the spellings of one length
 
-module _ (k : ℕ) (t : List ℕ) (es : List Spelling) (n : List ℕ) {r : Bool} (a : r ≡ same_text t n) where
-  pub hit : r ≡ true → k ≡ pick (record { number = k; spelt = t } ∷ es) n
-  unfolding pick
-  hit b = let q : same_text t n ≡ true = sym a ∙ b in rw q
+unfoldable pub pairs : List Spelling → List (List ℕ × ℕ)
+pairs [] = []
+pairs (e ∷ es) = (e.spelt, e.number) ∷ pairs es
 
-  pub pass : {x : ℕ} → r ≡ false → x ≡ pick es n → x ≡ pick (record { number = k; spelt = t } ∷ es) n
-  unfolding pick
-  pass b h = let q : same_text t n ≡ false = sym a ∙ b in rw q h
+among_pick : (es : List Spelling) (n : List ℕ) → unwrap_or (among n (pairs es)) 0 ≡ pick es n
+unfolding pairs among pick
+among_pick [] n = refl
+among_pick (e ∷ es) n = go (same_text e.spelt n) (among_pick es n)
+  where
+    go : (t : Bool) → unwrap_or (among n (pairs es)) 0 ≡ pick es n → unwrap_or (cond t (Some e.number) (among n (pairs es))) 0 ≡ cond t e.number (pick es n)
+    go true f = refl
+    go false f = f
 
-pub last : (k : ℕ) (t n : List ℕ) {x : ℕ} → x ≡ cond (same_text t n) k 0 → x ≡ pick (record { number = k; spelt = t } ∷ []) n
-unfolding pick
-last k t n e = e
+unfoldable pub numbered : List Spelling → Bool
+numbered [] = true
+numbered (e ∷ es) = within 1 18 e.number && numbered es
+
+among_some : (es : List Spelling) (n : List ℕ) → numbered es ≡ true → IfSome (among n (pairs es)) (λ j. (1 ≤ j) × (j ≤ 18))
+unfolding pairs among numbered
+among_some [] n e = tt
+among_some (e ∷ es) n h = go (same_text e.spelt n) (among_some es n b.1)
+  where
+    b : (within 1 18 e.number ≡ true) × (numbered es ≡ true)
+    b = (and-eq-true_iff (within 1 18 e.number) (numbered es)).0 h
+
+    go : (t : Bool) → IfSome (among n (pairs es)) (λ j. (1 ≤ j) × (j ≤ 18)) → IfSome (cond t (Some e.number) (among n (pairs es))) (λ j. (1 ≤ j) × (j ≤ 18))
+    go true f = (range_low 1 18 e.number b.0, range_high 1 18 e.number b.0)
+    go false f = f
+
+-- by a table of the spellings of length k
+pub by_table : (k : ℕ) (ps : List (List ℕ × ℕ)) (n : List ℕ) → pairs (of_length k (spellings rows)) ≡ ps → numbered (of_length k (spellings rows)) ≡ true → length n ≡ k
+    → {r : Answer ℕ} → r ≡ among n ps → (unwrap_or r 0 ≡ number_of n) × IfSome r (λ j. (1 ≤ j) × (j ≤ 18))
+by_table k ps n t m h {r} e =
+    let z : r ≡ among n (pairs (of_length k (spellings rows))) = rw t e in
+    (by_length k n h (rw z (among_pick (of_length k (spellings rows)) n)), rw z (among_some (of_length k (spellings rows)) n m))
+
+-- ---- a look through such a table
+
+module _ (n : List ℕ) (es : List (List ℕ × ℕ)) (i : ℕ) (h : among n es ≡ among n (drop i es)) where
+  pub none_among : length es ≤ i → None ≡ among n es
+  unfolding among
+  none_among l = sym (h ∙ rw (drop_of_length-le es l))
+
+  module _ (l : i < length es) {e : List ℕ × ℕ} (he : e ≡ get_or es i e) {b : Bool} (hb : b ≡ same_text e.0 n) where
+    first : among n es ≡ cond b (Some e.1) (among n (drop (suc i) es))
+    unfolding among
+    first = h ∙ rw (drop-cons es i e l, ← he, ← hb)
+
+    pub hit_among : b ≡ true → Some e.1 ≡ among n es
+    hit_among q = sym (first ∙ rw q)
+
+    pub next_among : b ≡ false → {k : ℕ} → k ≡ i + 1 → among n es ≡ among n (drop k es)
+    next_among q {k} z = let y : k ≡ suc i = omega arith in first ∙ rw (q, y)
 
 -- ---- a length that no spelling has
 
@@ -97,29 +142,29 @@ abbrev pub Other : List ℕ → ℕ → Type 0
 Other [] l = Unit {0}
 Other (k ∷ ks) l = Other ks l × (l ≡ k → ⊥)
 
-among_no : (ks : List ℕ) (l : ℕ) → Other ks l → among ks l ≡ false
-among_no [] l o = refl
-among_no (k ∷ ks) l o = rw (ne_eqb l k o.1, among_no ks l o.0)
+none_of : (ks : List ℕ) (l : ℕ) → Other ks l → one_of ks l ≡ false
+none_of [] l o = refl
+none_of (k ∷ ks) l o = rw (ne_eqb l k o.1, none_of ks l o.0)
 
 unfoldable pub covered : List ℕ → List Spelling → Bool
 covered ks [] = true
-covered ks (e ∷ es) = among ks (length e.spelt) && covered ks es
+covered ks (e ∷ es) = one_of ks (length e.spelt) && covered ks es
 
-none_left : (ks : List ℕ) (l : ℕ) (es : List Spelling) → among ks l ≡ false → covered ks es ≡ true → of_length l es ≡ []
+none_left : (ks : List ℕ) (l : ℕ) (es : List Spelling) → one_of ks l ≡ false → covered ks es ≡ true → of_length l es ≡ []
 unfolding of_length covered
 none_left ks l [] a c = refl
 none_left ks l (e ∷ es) a c = go (eqb (length e.spelt) l) refl (none_left ks l es a b.1)
   where
-    b : (among ks (length e.spelt) ≡ true) × (covered ks es ≡ true)
-    b = (and-eq-true_iff (among ks (length e.spelt)) (covered ks es)).0 c
+    b : (one_of ks (length e.spelt) ≡ true) × (covered ks es ≡ true)
+    b = (and-eq-true_iff (one_of ks (length e.spelt)) (covered ks es)).0 c
 
     go : (t : Bool) → eqb (length e.spelt) l ≡ t → of_length l es ≡ [] → cond t (e ∷ of_length l es) (of_length l es) ≡ []
-    go true p f = never (sym a ∙ ap (among ks) (sym (eqb-true (length e.spelt) l p)) ∙ b.0)
+    go true p f = never (sym a ∙ ap (one_of ks) (sym (eqb-true (length e.spelt) l p)) ∙ b.0)
     go false p f = f
 
 pub no_length : (ks : List ℕ) (n : List ℕ) → covered ks (spellings rows) ≡ true → Other ks (length n) → 0 ≡ number_of n
 unfolding pick
-no_length ks n c o = by_length (length n) n refl (rw (none_left ks (length n) (spellings rows) (among_no ks (length n) o) c))
+no_length ks n c o = by_length (length n) n refl (rw (none_left ks (length n) (spellings rows) (none_of ks (length n) o) c))
 
 -- ---- the compact names
 
@@ -133,57 +178,50 @@ one_byte [] h = absurd (omega arith)
 one_byte (b ∷ []) h = refl
 one_byte (b ∷ c ∷ n) h = absurd (omega arith)
 
--- a capital in its small form
-abbrev small : ℕ → ℕ
-small b = cond (ltb b 97) (b + 32) b
-
-module _ (b : ℕ) where
-  pub low_byte : b < 97 → {r : ℕ} → r ≡ b + 32 → r ≡ small b
-  low_byte h e = rw (lt-ltb b 97 h) e
-
-  pub high_byte : 97 ≤ b → b ≡ small b
-  high_byte h = rw (le-ltb b 97 h)
-
-  small_is : (x : ℕ) → small b ≡ x → (b ≡ x - 32) ⊎ (b ≡ x)
-  small_is x e = go (ltb b 97) e
+module _ (b : ℕ) {c : ℕ} (hc : c ≡ to_ascii_lowercase b) where
+  lowered : c ≡ lower b
+  unfolding lower
+  lowered = go (ltb b 65) (ltb b 91) refl refl
     where
-      go : (t : Bool) → cond t (b + 32) b ≡ x → (b ≡ x - 32) ⊎ (b ≡ x)
-      go true q = inl (omega arith)
-      go false q = inr q
+      go : (t u : Bool) → ltb b 65 ≡ t → ltb b 91 ≡ u → c ≡ cond (leb 65 b && leb b 90) (b + 32) b
+      go true u p q = hc ∙ rw (p, lt-leb 65 b (ltb-true b 65 p))
+      go false true p q = hc ∙ rw (p, q, le-leb 65 b (ltb-false b 65 p), le-leb b 90 (omega (arith, ltb-true b 91 q)))
+      go false false p q = hc ∙ rw (p, q, le-leb 65 b (ltb-false b 65 p), lt-leb b 90 (omega (arith, ltb-false b 91 q)))
 
-  module _ {c : ℕ} (hc : c ≡ small b) where
-    pub letter : (x k : ℕ) → k ≡ number_of ((x - 32) ∷ []) → k ≡ number_of (x ∷ []) → OneOf (x ∷ []) c → k ≡ number_of (b ∷ [])
-    letter x k p q e = ⊎_elim (λ z. p ∙ at z) (λ z. q ∙ at z) (small_is x (sym hc ∙ e))
-      where
-        at : {y : ℕ} → b ≡ y → number_of (y ∷ []) ≡ number_of (b ∷ [])
-        at z = ap (λ (y : ℕ). number_of (y ∷ [])) (sym z)
+  twice : lower (lower b) ≡ lower b
+  unfolding lower
+  twice = go (leb 65 b) (leb b 90) refl refl
+    where
+      go : (t u : Bool) → leb 65 b ≡ t → leb b 90 ≡ u → lower (cond (t && u) (b + 32) b) ≡ cond (t && u) (b + 32) b
+      go true true p q = rw (lt-leb (b + 32) 90 (omega (arith, leb-true 65 b p)), and-false (leb 65 (b + 32)))
+      go true false p q = rw (p, q)
+      go false u p q = rw p
 
-    other_letter : (x : ℕ) → ltb 96 x ≡ true → (OneOf (x ∷ []) c → ⊥) → eqb x (lower b) ≡ false
-    unfolding lower
-    other_letter x l h = go (within 65 90 b) refl
-      where
-        go : (t : Bool) → within 65 90 b ≡ t → eqb x (cond t (b + 32) b) ≡ false
-        go true e =
-            let i = (and-eq-true_iff (leb 65 b) (leb b 90)).0 e in
-            let k : b < 97 = omega (arith, leb-true b 90 i.1) in
-            ne_eqb x (b + 32) (λ z. h (hc ∙ rw (lt-ltb b 97 k) (sym z)))
-        go false e = ne_eqb x b (λ z. h (let k : 97 ≤ b = omega (arith, ltb-true 96 x l) in hc ∙ rw (le-ltb b 97 k) (sym z)))
+  number_lower : number_of (lower b ∷ []) ≡ number_of (b ∷ [])
+  unfolding number_of lookup rows text same_text
+  number_lower = rw twice
 
-    -- none of these letters, the last of which stands first
-    pub no_letter : OtherLetter (107 ∷ 99 ∷ 108 ∷ 109 ∷ 105 ∷ 116 ∷ 102 ∷ 118 ∷ []) c → 0 ≡ number_of (b ∷ [])
-    unfolding pick text rows spellings of_length same_text
-    no_letter o =
-        by_length 1 (b ∷ []) refl
-        (rw (
-          other_letter 107 refl o.1,
-          other_letter 99 refl o.0.1,
-          other_letter 108 refl o.0.0.1,
-          other_letter 109 refl o.0.0.0.1,
-          other_letter 105 refl o.0.0.0.0.1,
-          other_letter 116 refl o.0.0.0.0.0.1,
-          other_letter 102 refl o.0.0.0.0.0.0.1,
-          other_letter 118 refl o.0.0.0.0.0.0.0.1,
-        ))
+  pub letter : (x k : ℕ) → k ≡ number_of (x ∷ []) → OneOf (x ∷ []) c → k ≡ number_of (b ∷ [])
+  letter x k p e = let z : lower b ≡ x = sym lowered ∙ e in p ∙ ap (λ (y : ℕ). number_of (y ∷ [])) (sym z) ∙ number_lower
+
+  other_letter : (x : ℕ) → (OneOf (x ∷ []) c → ⊥) → eqb x (lower b) ≡ false
+  other_letter x h = ne_eqb x (lower b) (λ z. h (lowered ∙ sym z))
+
+  -- none of these letters, the last of which stands first
+  pub no_letter : OtherLetter (107 ∷ 99 ∷ 108 ∷ 109 ∷ 105 ∷ 116 ∷ 102 ∷ 118 ∷ []) c → 0 ≡ number_of (b ∷ [])
+  unfolding pick text rows spellings of_length same_text
+  no_letter o =
+      by_length 1 (b ∷ []) refl
+      (rw (
+        other_letter 107 o.1,
+        other_letter 99 o.0.1,
+        other_letter 108 o.0.0.1,
+        other_letter 109 o.0.0.0.1,
+        other_letter 105 o.0.0.0.0.1,
+        other_letter 116 o.0.0.0.0.0.1,
+        other_letter 102 o.0.0.0.0.0.0.1,
+        other_letter 118 o.0.0.0.0.0.0.0.1,
+      ))
 
 pub one_letter : (n : List ℕ) → length n ≡ 1 → {k : ℕ} → k ≡ number_of (get_or n 0 0 ∷ []) → k ≡ number_of n
 one_letter n h e = e ∙ ap number_of (sym (one_byte n h))

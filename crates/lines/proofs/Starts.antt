@@ -1,9 +1,10 @@
 -- The start line by the tests of its readers: each test is one part of the condition of `request_line`; and the lengths of either kind, by
 -- the line that is read.
 use mathlib.Core.Path.{◌≡◌, refl, sym, ap, ◌∙◌}
-use mathlib.Core.Bool.{Bool, true, false, not, cond, ◌&&◌, and-eq-true_iff}
+use mathlib.Core.Bool.{Bool, true, false, not, ◌&&◌, and-eq-true_iff}
 use mathlib.Core.List.{List}
 use mathlib.Core.Option.{Option, none, some}
+use Rattle.std.specs.Prelude.{Option as Answer, None, Some, IfSome}
 use Prim.Native.Nat.{ℕ, ◌+◌, ◌-◌, ◌≤◌, ◌<◌}
 use native.Mathlib.Omega.{arith}
 use lib.Dec.{leb}
@@ -11,19 +12,20 @@ use lib.ListN.{length, take, drop, get_or, drop_of_length-le, length-append, len
 use lib.Seq.{length-take-le, drop-drop}
 use borrow.Author.Tests.{ne_eqb, leb-true, le-leb, lt-leb, not-true, not-false}
 use Rattle.octets.specs.Classes.{text, within, is_token, is_visible}
-use Rattle.octets.specs.Scans.{run, starts, same_text}
+use Rattle.octets.specs.Scans.{run, starts, same, same_text}
 use Rattle.octets.proofs.Places.{drop1}
 use Rattle.octets.proofs.Runs.{run_le}
 use Rattle.octets.proofs.Texts.{same_text_length}
-use Rattle.sip.specs.Lines.{RequestLine, StatusLine, Start, request, response, is_version, is_version_first, request_line, status_line, start_of, start, start_bytes, start_size}
+use Rattle.sip.specs.Lines.{RequestLine, Start, request, response, is_version, is_version_first, request_line, status_line, start_of, start, start_bytes, start_size}
 use Rattle.sip.specs.Change.{StartShaped}
 use Rattle.sip.proofs.Starts.{start_here}
 use Rattle.lines.specs.Places.{start_places, start_at}
-use Rattle.lines.specs.Passes.{lengths_of, request_lengths, size_of, status_size, start_lengths}
+use Rattle.lines.specs.Index.{method_of, uri_of, HasMethod}
+use Rattle.lines.specs.Passes.{lengths_of, request_at, status_at, line_size, start_lengths}
 use Rattle.lines.specs.Sizes.{uri_size}
-use Rattle.lines.specs.declared.start.Lengths.{Lengths}
-use Rattle.lines.specs.declared.StartAt.TheVariants.{Request, Status, Bad}
-use Rattle.lines.proofs.Quads.{Stands}
+use Rattle.lines.specs.declared.StartLine.{StartLine}
+use Rattle.lines.specs.declared.StartLine.TheVariants.{Request, Status}
+use Rattle.lines.proofs.Quads.{same_is}
 
 -- ---- the version
 
@@ -39,19 +41,12 @@ module _ (s : List ℕ) (at : ℕ) where
       go true e = absurd (omega (arith, version_fits (drop at s) e, length-drop at s))
       go false e = refl
 
-  capitals : Stands s at 10 (text " SIP/2.0\r\n") → is_version (take 10 (drop at s)) ≡ true
-  unfolding is_version same_text text
-  capitals e = rw e.stands
-
   abbrev version : Bool
   version = is_version (take 10 (drop at s))
 
-  pub all_words : (b : Bool) → (b ≡ true → Stands s at 10 (text " SIP/2.0\r\n")) → version ≡ cond b true version
-  all_words true f = capitals (f refl)
-  all_words false f = refl
-
-  pub told_version : (b : Bool) → version ≡ cond b true version → b ≡ true → true ≡ version
-  told_version b e q = sym (rw q at e)
+  pub told_version : {b : Bool} → b ≡ same (take 10 (drop at s)) (text " SIP/2.0\r\n") → b ≡ true → b ≡ version
+  unfolding is_version same_text text
+  told_version e q = let z = same_is (take 10 (drop at s)) (text " SIP/2.0\r\n") (sym e ∙ q) in q ∙ rw z
 
   pub compared_version : {e : ℕ} → e ≡ at + 10 → {g : Bool} → g ≡ same_text (text " SIP/2.0\r\n") (take (e - at) (drop at s)) → g ≡ version
   unfolding is_version
@@ -64,11 +59,11 @@ module _ (s : List ℕ) (at : ℕ) {e : ℕ} (he : e ≡ at + run is_visible (dr
   u_is : run is_visible (drop at s) ≡ e - at
   u_is = omega arith
 
-  pub uri_short : e ≤ at → 0 ≡ uri_size (drop at s)
+  pub uri_short : {u : ℕ} → u ≡ e - at → u < 1 → 0 ≡ uri_size (drop at s)
   unfolding uri_size
-  uri_short h = rw (u_is, lt-leb 1 (e - at) (omega arith))
+  uri_short {u = u} hu h = rw (u_is, ← hu, lt-leb 1 u h)
 
-  module _ (a : at < e) {u : ℕ} (hu : u ≡ e - at) where
+  module _ {u : ℕ} (hu : u ≡ e - at) (a : 1 ≤ u) where
     pub uri_long : 256 < u → 0 ≡ uri_size (drop at s)
     unfolding uri_size
     uri_long h = let l : 1 ≤ u = omega arith in rw (u_is, ← hu, le-leb 1 u l, lt-leb u 256 h)
@@ -90,9 +85,6 @@ module _ (s : List ℕ) (at : ℕ) {e : ℕ} (he : e ≡ at + run is_visible (dr
 -- what follows the method and its space is good
 abbrev good_uri : List ℕ → Bool
 good_uri w = within 1 256 (run is_visible w) && is_version (take 10 (drop (run is_visible w) w))
-
-abbrev no_line : Lengths
-no_line = record { method = 0; uri = 0; line = 0 }
 
 uri_no : (w : List ℕ) → uri_size w < 1 → good_uri w ≡ false
 unfolding uri_size
@@ -118,24 +110,24 @@ module _ (s : List ℕ) (m : ℕ) (hm : m ≡ 0 + run is_token (drop 0 s)) where
   m_is : run is_token s ≡ m
   m_is = omega arith
 
-  pub method_short : m < 1 → no_line ≡ request_lengths s
-  unfolding request_lengths request_line
+  pub method_short : m < 1 → None ≡ request_at s
+  unfolding request_at request_line
   method_short h = rw (m_is, lt-leb 1 m h)
 
-  pub method_long : 32 < m → no_line ≡ request_lengths s
-  unfolding request_lengths request_line
+  pub method_long : 32 < m → None ≡ request_at s
+  unfolding request_at request_line
   method_long h = let l : 1 ≤ m = omega arith in rw (m_is, le-leb 1 m l, lt-leb m 32 h)
 
   module _ (a : 1 ≤ m) (b : m ≤ 32) where
-    no_space_at : starts 32 (drop m s) ≡ false → no_line ≡ request_lengths s
-    unfolding request_lengths request_line
+    no_space_at : starts 32 (drop m s) ≡ false → None ≡ request_at s
+    unfolding request_at request_line
     no_space_at q = rw (m_is, le-leb 1 m a, le-leb m 32 b, q)
 
-    pub method_last : length s ≤ m → no_line ≡ request_lengths s
+    pub method_last : length s ≤ m → None ≡ request_at s
     unfolding starts
     method_last h = no_space_at (rw (drop_of_length-le s h))
 
-    pub no_space : m < length s → (get_or s m 0 ≡ 32 → ⊥) → no_line ≡ request_lengths s
+    pub no_space : m < length s → (get_or s m 0 ≡ 32 → ⊥) → None ≡ request_at s
     unfolding starts
     no_space h n = no_space_at (rw (drop1 s m h, ne_eqb (get_or s m 0) 32 n))
 
@@ -147,120 +139,90 @@ module _ (s : List ℕ) (m : ℕ) (hm : m ≡ 0 + run is_token (drop 0 s)) where
       good_is : good_uri (drop n s) ≡ (within 1 256 (run is_visible (drop (m + 1) s)) && is_version (take 10 (drop (m + 1 + run is_visible (drop (m + 1) s)) s)))
       good_is = rw (hn, drop-drop (run is_visible (drop (m + 1) s)) (m + 1) s)
 
-      pub without_uri : u < 1 → no_line ≡ request_lengths s
-      unfolding request_lengths request_line
+      pub without_uri : u < 1 → None ≡ request_at s
+      unfolding request_at request_line
       without_uri l = rw (m_is, le-leb 1 m a, le-leb m 32 b, space, ← good_is, uri_no (drop n s) (omega arith))
 
-      pub a_request : 1 ≤ u → {k : ℕ} → k ≡ m + u + 11 → record { method = m; uri = u; line = k } ≡ request_lengths s
-      unfolding request_lengths request_line
-      a_request l {k} z =
+      pub a_request : 1 ≤ u → Some (Request m u) ≡ request_at s
+      unfolding request_at request_line
+      a_request l =
           let y = uri_yes (drop n s) (omega arith) in
           let c : run is_visible (drop (m + 1) s) ≡ u = ap (λ (i : ℕ). run is_visible (drop i s)) (sym hn) ∙ y.1 ∙ sym hu in
           let d : length (take m s) ≡ m = length-take-le m s (omega (arith, run_le is_token s)) in
           let f : length (take u (drop (m + 1) s)) ≡ u = length-take-le u (drop (m + 1) s) (omega (arith, run_le is_visible (drop (m + 1) s))) in
-          let w : m + 1 + u + 10 ≡ k = omega arith in
-          rw (m_is, le-leb 1 m a, le-leb m 32 b, space, ← good_is, y.0, c, d, f, w)
+          rw (m_is, le-leb 1 m a, le-leb m 32 b, space, ← good_is, y.0, c, d, f)
+
+module _ (s : List ℕ) (m : ℕ) (hm : m ≡ 0 + run is_token (drop 0 s)) (a : 1 ≤ m) (b : m ≤ 32) (h : m < length s) (q : get_or s m 0 ≡ 32) {n : ℕ} (hn : n ≡ m + 1) where
+  pub no_uri : 0 ≡ uri_size (drop n s) → None ≡ request_at s
+  no_uri e = without_uri s m hm a b h q hn e (omega arith)
 
 -- ---- the start line of either kind
-
-pub same_line : {x y : Lengths} → x ≡ y → x.line ≡ y.line
-same_line e = ap (λ (x : Lengths). x.line) e
-
-same_method : {x y : Lengths} → x ≡ y → x.method ≡ y.method
-same_method e = ap (λ (x : Lengths). x.method) e
 
 bytes_long : (l : Start) (v : List ℕ) → StartShaped l v → length (start_bytes l v) ≡ start_size l
 unfolding is_version is_version_first text
 bytes_long (request l) v w = simp length-append (omega (arith, same_text_length (text " SIP/2.0\r\n") v w.version_written))
 bytes_long (response l) v w = simp length-append (omega (arith, same_text_length (text "SIP/2.0 ") v w.version_written))
 
-line_fits : (s : List ℕ) → (start_lengths s).line ≤ length s
-unfolding start_lengths
-line_fits s = go (start s) refl
+-- the lengths of the line that is there
+pub start_long : (s : List ℕ) (k : StartLine) → Some k ≡ start_at s
+    → (start_lengths s ≡ record { method = method_of k; uri = uri_of k; line = line_size k }) × HasMethod k × (line_size k ≤ length s) × ((l : Start) × (start s ≡ some l) × (line_size k ≡ start_size l))
+unfolding start_lengths start_at
+start_long s k = go (start s) refl
   where
-    go : (o : Option Start) → start s ≡ o → (lengths_of o).line ≤ length s
-    go none e = omega arith
-    go (some l) e =
-        let h = start_here s l e in
-        omega (arith, bytes_long l h.version h.shaped, length-append (start_bytes l h.version) (drop (start_size l) s), ap length h.here)
+    go : (o : Option Start) → start s ≡ o → Some k ≡ start_places o
+        → (lengths_of o ≡ record { method = method_of k; uri = uri_of k; line = line_size k }) × HasMethod k × (line_size k ≤ length s) × ((l : Start) × (start s ≡ some l) × (line_size k ≡ start_size l))
+    go none e q = cc
+    go (some (request l)) e q =
+        let z : k ≡ Request (length l.method) (length l.uri) = cc in
+        let h = start_here s (request l) e in
+        let size : length l.method + length l.uri + 11 ≡ start_size (request l) = omega arith in
+        rw z (
+          rw size,
+          h.shaped.method_long,
+          omega (arith, bytes_long (request l) h.version h.shaped, length-append (start_bytes (request l) h.version) (drop (start_size (request l)) s), ap length h.here),
+          (request l, e, size),
+        )
+    go (some (response l)) e q =
+        let z : k ≡ Status (length l.phrase) = cc in
+        let h = start_here s (response l) e in
+        let size : length l.phrase + 14 ≡ start_size (response l) = omega (arith, h.shaped.code_long) in
+        rw z (
+          rw size,
+          tt,
+          omega (arith, bytes_long (response l) h.version h.shaped, length-append (start_bytes (response l) h.version) (drop (start_size (response l)) s), ap length h.here),
+          (response l, e, size),
+        )
 
-module _ (s : List ℕ) {r : Lengths} (hr : r ≡ request_lengths s) where
-  module _ (h : 0 < r.line) where
-    pub is_request : r ≡ start_lengths s
-    unfolding request_lengths start_lengths start
-    is_request = go (request_line s) hr
-      where
-        go : (o : Option RequestLine) → r ≡ lengths_of (start_of o none) → r ≡ lengths_of (start_of o (status_line s))
-        go none e = absurd (omega (arith, same_line e))
-        go (some l) e = e
+pub fits : (s : List ℕ) (r : Answer StartLine) → r ≡ start_at s → IfSome r (λ l. line_size l ≤ length s)
+fits s None e = tt
+fits s (Some k) e = (start_long s k e).2
 
-    pub request_fits : r.line ≤ length s
-    request_fits = rw is_request (line_fits s)
-
-  module _ (h : r.line ≤ 0) {n : ℕ} (hn : n ≡ status_size s) where
-    pub is_status : record { method = 0; uri = 0; line = n } ≡ start_lengths s
-    unfolding request_lengths status_size start_lengths start
-    is_status = rw hn (go (request_line s) (status_line s) hr)
-      where
-        go : (o : Option RequestLine) (a : Option StatusLine) → r ≡ lengths_of (start_of o none)
-            → record { method = 0; uri = 0; line = size_of a } ≡ lengths_of (start_of o a)
-        go none none e = refl
-        go none (some l) e = refl
-        go (some l) a e = absurd (omega (arith, same_line e))
-
-    pub status_fits : n ≤ length s
-    status_fits = rw (same_line is_status) (line_fits s)
-
--- ---- what the line's length says
-
-module _ (s : List ℕ) {n : ℕ} (e : n ≡ (start_lengths s).line) where
-  pub no_start : n < 1 → start s ≡ none
-  unfolding start_lengths
-  no_start h = go (start s) e
+module _ (s : List ℕ) {r : Answer StartLine} (hr : r ≡ request_at s) where
+  pub is_request : (k : StartLine) → r ≡ Some k → Some k ≡ start_at s
+  unfolding request_at start_at start
+  is_request k q = go (request_line s) (sym q ∙ hr)
     where
-      go : (o : Option Start) → n ≡ (lengths_of o).line → o ≡ none
-      go none q = refl
-      go (some (request l)) q = absurd (omega arith)
-      go (some (response l)) q = absurd (omega arith)
+      go : (o : Option RequestLine) → Some k ≡ start_places (start_of o none) → Some k ≡ start_places (start_of o (status_line s))
+      go none e = cc
+      go (some l) e = e
 
-  pub start_found : 1 ≤ n → (l : Start) × (start s ≡ some l) × (n ≡ start_size l)
-  unfolding start_lengths
-  start_found h = go (start s) refl e
+  pub request_fits : (k : StartLine) → r ≡ Some k → line_size k ≤ length s
+  request_fits k q = (start_long s k (is_request k q)).2
+
+  pub is_status : r ≡ None → {x : Answer StartLine} → x ≡ status_at s → x ≡ start_at s
+  unfolding request_at status_at start_at start
+  is_status q {x} e = go (request_line s) (sym q ∙ hr)
     where
-      go : (o : Option Start) → start s ≡ o → n ≡ (lengths_of o).line → (l : Start) × (start s ≡ some l) × (n ≡ start_size l)
-      go none p q = absurd (omega arith)
-      go (some l) p q = (l, p, q)
+      go : (o : Option RequestLine) → None ≡ start_places (start_of o none) → x ≡ start_places (start_of o (status_line s))
+      go none e' = e
+      go (some l) e' = cc
 
--- ---- the start line by its kind
-
-module _ (s : List ℕ) {r : Lengths} (hr : r ≡ start_lengths s) where
-  pub bad_start : r.line < 1 → Bad ≡ start_at s
-  unfolding start_at
-  bad_start h = rw (no_start s (same_line hr) h)
-
-  module _ (g : 1 ≤ r.line) where
-    module _ (h : r.method < 1) where
-      response_read : (l : StatusLine) × (start s ≡ some (response l)) × (r.line ≡ length l.phrase + 14)
-      unfolding start_lengths
-      response_read = go (start s) refl hr
-        where
-          go : (o : Option Start) → start s ≡ o → r ≡ lengths_of o → (l : StatusLine) × (start s ≡ some (response l)) × (r.line ≡ length l.phrase + 14)
-          go none p e = absurd (omega (arith, same_line e))
-          go (some (request l)) p e = absurd (omega (arith, same_method e, (start_here s (request l) p).shaped.method_long))
-          go (some (response l)) p e = (l, p, omega (arith, same_line e, (start_here s (response l) p).shaped.code_long))
-
-      pub response_long : 14 ≤ r.line
-      response_long = let (l, p, e) = response_read in omega arith
-
-      pub a_response : {n : ℕ} → n ≡ r.line - 14 → Status n ≡ start_at s
-      unfolding start_at
-      a_response {n} z = let (l, p, e) = response_read in let w : n ≡ length l.phrase = omega arith in rw (p, w)
-
-    pub is_request_line : 1 ≤ r.method → Request r.method r.uri ≡ start_at s
-    unfolding start_lengths start_at
-    is_request_line h = go (start s) hr
-      where
-        go : (o : Option Start) → r ≡ lengths_of o → Request r.method r.uri ≡ start_places o
-        go none e = absurd (omega (arith, same_line e))
-        go (some (request l)) e = rw e
-        go (some (response l)) e = absurd (omega (arith, same_method e))
+-- none stands there
+pub no_start : (s : List ℕ) → None ≡ start_at s → start s ≡ none
+unfolding start_at
+no_start s = go (start s)
+  where
+    go : (o : Option Start) → None ≡ start_places o → o ≡ none
+    go none q = refl
+    go (some (request l)) q = cc
+    go (some (response l)) q = cc

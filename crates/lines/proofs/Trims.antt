@@ -1,12 +1,12 @@
--- Laws of `trim_end`, by induction on the text before its last byte; and of the part of a value that is left.
-use mathlib.Core.Path.{◌≡◌, refl, sym, ap, ◌∙◌}
+-- Laws of `trim_end`, by induction on the text; and of the part of a value that is left.
+use mathlib.Core.Path.{◌≡◌, refl, sym, ◌∙◌}
 use mathlib.Core.Bool.{Bool, true, false, not, cond}
-use mathlib.Core.List.{List, [], ◌∷◌, ◌++◌}
-use Prim.Native.Nat.{ℕ, suc, ◌+◌, ◌-◌, ◌*◌, ◌≤◌, ◌<◌}
+use mathlib.Core.List.{List, [], ◌∷◌}
+use Prim.Native.Nat.{ℕ, zero, suc, ◌+◌, ◌-◌, ◌*◌, ◌≤◌, ◌<◌}
 use native.Mathlib.Omega.{arith}
 use lib.Dec.{ltb}
 use lib.ListN.{length, take, drop, get_or, length-drop}
-use lib.Seq.{take-length, take-suc, length-take-le, get_or-drop}
+use lib.Seq.{get_or-drop}
 use borrow.Author.Tests.{not-true, not-false, ne_eqb, ltb-true}
 use Rattle.octets.specs.Classes.{bit, is_gap}
 use Rattle.octets.specs.Scans.{run}
@@ -18,45 +18,26 @@ use Rattle.sip.specs.Values.{is_empty}
 use Rattle.lines.specs.Sizes.{value_part}
 
 module _ (p : ℕ → Bool) where
-  last_goes : (xs : List ℕ) (b : ℕ) → p b ≡ true → trim_end p (xs ++ b ∷ []) ≡ trim_end p xs
+  all_go : (s : List ℕ) → ((k : ℕ) → k < length s → not (p (get_or s k 0)) ≡ false) → trim_end p s ≡ []
   unfolding trim_end
-  last_goes [] b e = rw e
-  last_goes (x ∷ xs) b e = ap (unless_last p x) (last_goes xs b e)
+  all_go [] h = refl
+  all_go (b ∷ s) h = rw (all_go s (λ k l. h (suc k) (omega arith)), not-false (p b) (h 0 (omega arith)))
 
-  before_last : (x : ℕ) (xs : List ℕ) (b : ℕ) → unless_last p x (xs ++ b ∷ []) ≡ x ∷ xs ++ b ∷ []
-  before_last x [] b = refl
-  before_last x (y ∷ xs) b = refl
+  pub none_left : (s : List ℕ) → ((k : ℕ) → k < length s → not (p (get_or s k 0)) ≡ false) → 0 ≡ length (trim_end p s)
+  none_left s h = rw (all_go s h)
 
-  last_stays : (xs : List ℕ) (b : ℕ) → p b ≡ false → trim_end p (xs ++ b ∷ []) ≡ xs ++ b ∷ []
+  stays_before : (b : ℕ) (s : List ℕ) → 1 ≤ length s → 1 + length s ≡ length (unless_last p b s)
+  stays_before b [] h = absurd (omega arith)
+  stays_before b (x ∷ s) h = omega arith
+
+  pub last_stays : (s : List ℕ) (i : ℕ) → i < length s → not (p (get_or s i 0)) ≡ true
+      → ((k : ℕ) → i + 1 ≤ k → k < length s → not (p (get_or s k 0)) ≡ false) → i + 1 ≡ length (trim_end p s)
   unfolding trim_end
-  last_stays [] b e = rw e
-  last_stays (x ∷ xs) b e = ap (unless_last p x) (last_stays xs b e) ∙ before_last x xs b
-
--- ---- a loop from the end: up to `end` the text is looked at still
-
-module _ (s : List ℕ) where
-  pub all_left : trim_end is_gap s ≡ trim_end is_gap (take (length s) s)
-  all_left = rw (take-length s)
-
-  module _ {end : ℕ} (e : trim_end is_gap s ≡ trim_end is_gap (take end s)) where
-    pub none_left : end ≤ 0 → 0 ≡ length (trim_end is_gap s)
-    unfolding trim_end
-    none_left h = let z : end ≡ 0 = omega arith in rw (e, z)
-
-    module _ {last : ℕ} (h : end ≤ length s) (k : 0 < end) (hl : last ≡ end - 1) {g : Bool} (hg : g ≡ is_gap (get_or s last 0)) where
-      with_last : take end s ≡ take last s ++ get_or s last 0 ∷ []
-      with_last = let z : end ≡ suc last = omega arith in rw z (take-suc s last 0 (omega arith))
-
-      pub no_gap : not g ≡ true → end ≡ length (trim_end is_gap s)
-      no_gap q =
-          let f : is_gap (get_or s last 0) ≡ false = sym hg ∙ not-true g q in
-          let i : trim_end is_gap s ≡ take end s = e ∙ rw with_last (last_stays is_gap (take last s) (get_or s last 0) f) in
-          rw i (sym (length-take-le end s h))
-
-      pub a_gap : not g ≡ false → trim_end is_gap s ≡ trim_end is_gap (take last s)
-      a_gap q =
-          let f : is_gap (get_or s last 0) ≡ true = sym hg ∙ not-false g q in
-          e ∙ rw with_last (last_goes is_gap (take last s) (get_or s last 0) f)
+  last_stays [] i l f after = absurd (omega arith)
+  last_stays (b ∷ s) zero l f after = rw (all_go s (λ k m. after (suc k) (omega arith) (omega arith)), not-true (p b) f)
+  last_stays (b ∷ s) (suc i) l f after =
+      let rest : i + 1 ≡ length (trim_end p s) = last_stays s i (omega arith) f (λ k m n. after (suc k) (omega arith) (omega arith)) in
+      omega (arith, rest, stays_before b (trim_end p s) (omega (arith, rest)))
 
 -- ---- the part of a value
 
@@ -99,7 +80,7 @@ module _ (s : List ℕ) where
       let last : get_or t (length t - 1) 0 ≡ get_or s (length s - 1) 0 = let z : 1 + (length t - 1) ≡ length s - 1 = omega arith in get_or-drop 1 s (length t - 1) 0 ∙ rw z in
       let before : 1 ≡ 0 + run is_gap s = omega (arith, run_at is_gap s 0 (omega arith) (rw e), run_stop is_gap s 1 (omega arith) (not_gap (get_or s 1 0) f)) in
       let none : not (is_gap (get_or t (length t - 1) 0)) ≡ true = rw (last, not_gap (get_or s (length s - 1) 0) g) in
-      let stays : length t ≡ length (trim_end is_gap t) = no_gap t (all_left t) (omega arith) (omega arith) refl refl none in
+      let stays : length t ≡ length (trim_end is_gap t) = omega (arith, last_stays is_gap t (length t - 1) (omega arith) none (λ k m n. absurd (omega arith))) in
       sym (a_part s before (rw (drop_slice s 1) (omega arith)) (omega arith))
 
   pub plain_test : 2 ≤ length s → get_or s 0 0 ≡ 32 → 32 < get_or s 1 0

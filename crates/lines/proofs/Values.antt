@@ -1,27 +1,33 @@
 -- Laws of `value_size`: value bytes are passed over by one run, by induction on the text; after the run, by what stands there.
 use mathlib.Core.Path.{◌≡◌, refl, sym, ap, ◌∙◌}
-use mathlib.Core.Bool.{Bool, true, false, not, cond, ◌&&◌, and-eq-true_iff}
+use mathlib.Core.Bool.{Bool, true, false, not, cond, ◌&&◌, and-eq-true_iff, and-false}
 use mathlib.Core.List.{List, [], ◌∷◌}
 use mathlib.Core.Option.{Option, none, some}
 use Prim.Native.Nat.{ℕ, zero, suc, ◌+◌, ◌*◌, ◌-◌, ◌≤◌, ◌<◌}
 use native.Mathlib.Omega.{arith}
 use lib.Dec.{eqb, ltb}
-use lib.ListN.{length, drop, get_or, length-drop}
+use lib.ListN.{length, drop, get_or, drop_of_length-le, length-drop}
 use lib.Seq.{drop-drop}
 use borrow.Author.Tests.{eqb-true, eqb-false, eq-eqb, ne_eqb, ltb-true, not-true, not-false}
-use Rattle.octets.specs.Classes.{is_blank, is_break, is_value}
+use Rattle.octets.specs.Classes.{bit, is_blank, is_break, is_value}
 use Rattle.octets.specs.Scans.{run, any}
 use Rattle.octets.proofs.Places.{drop1, drop2}
 use Rattle.octets.proofs.Runs.{run_nil, run_yes, run_no, run_after}
 use Rattle.sip.specs.Lines.{starts_crlf, starts_blank, one_longer, value_size}
 use Rattle.lines.specs.Places.{breaks}
+use Rattle.std.specs.Prelude.{None, Some}
 use Rattle.lines.specs.Sizes.{end_at, value_end}
+use Rattle.lines.specs.Passes.{ValueStands}
 
 pub never : {A : Type 0} → false ≡ true → A
 never e = let z : ◌≡◌ {A = ℕ} 0 1 = cc in absurd (omega arith)
 
 nothing : {A : Type 0} {n : ℕ} → ◌≡◌ {A = Option ℕ} none (some n) → A
 nothing e = let z : ◌≡◌ {A = ℕ} 0 1 = cc in absurd (omega arith)
+
+pub bit_small : (t : Bool) (n : ℕ) → 1 ≤ n → bit t ≤ n
+bit_small true n h = omega arith
+bit_small false n h = omega arith
 
 -- ---- a value byte is no byte of a line break
 
@@ -226,11 +232,25 @@ module _ (s : List ℕ) where
         go true q = last_line (omega arith) (omega arith) (ltb-true 32 (get_or s (at + 2) 0) q)
         go false q = refl
 
+  pub last_within : (line : ℕ) (r : Bool) → r ≡ true → bit r ≤ length s - line → line < length s
+  last_within line r q h = omega (arith, rw q at h)
+
+  -- by what is read of the lines of a value at a place
+  module _ (at : ℕ) {line : ℕ} (h : line ≡ at + run is_value (drop at s)) where
+    pub bad_value : length s ≡ value_end s line → ValueStands s at None
+    bad_value e = let z : length s ≡ value_end s at = end_after_line at h e in record { value_stands = omega arith }
+
+    pub good_value : {e : ℕ} → e ≡ value_end s line → e < length s → ValueStands s at (Some (record { end = e; folded = not (eqb e line) }))
+    good_value {e} q l = record { value_stands = (end_after_line at h q, l, folded_line at h e) }
+
   pub ends_here : (at : ℕ) (r : Bool) → value_end s at ≡ cond r at (value_end s at) → r ≡ true → at ≡ value_end s at
   ends_here at r e q = sym (rw q at e)
 
   -- the value is read up to `end`
   module _ (line end : ℕ) (e : value_end s line ≡ value_end s end) {c : Bool} (hc : c ≡ starts_crlf (drop end s)) where
+    pub room : c ≡ true → end < length s
+    room y = omega (arith, crlf_room (drop end s) (sym hc ∙ y), length-drop end s)
+
     pub ends_bad : c ≡ false → run is_value (drop end s) ≡ 0 → length s ≡ value_end s line
     unfolding value_end
     ends_bad n z = sym (e ∙ rw (bad_size (drop end s) z (sym hc ∙ n)))
@@ -265,3 +285,75 @@ module _ (s : List ℕ) where
           next_read =
               e ∙ ap (end_at (length s) end) (fold_size (drop end s) (fold_is ∙ not-false b q)) ∙ end_plus end 3 (value_size 0 (drop 3 (drop end s)))
               ∙ rw (drop-drop 3 end s, ← hn) (line_end next hk)
+
+-- ---- a CRLF that a blank follows, by its bytes
+
+module _ (s : List ℕ) (at : ℕ) where
+  abbrev folds : Bool
+  folds = starts_crlf (drop at s) && starts_blank (drop (at + 2) s)
+
+  pub no_room : length s - at < 3 → false ≡ folds
+  unfolding starts_blank
+  no_room h = rw (drop_of_length-le s {i = at + 2} (omega arith)) (sym (and-false (starts_crlf (drop at s))))
+
+  module _ (h : 3 ≤ length s - at) {x y : ℕ} (hx : x ≡ get_or s at 0 + 256 * get_or s (at + 1) 0) (a : get_or s at 0 < 256) (b : get_or s (at + 1) 0 < 256) (hy : y ≡ 13 + 256 * 10) where
+    crlf_is : starts_crlf (drop at s) ≡ (eqb (get_or s at 0) 13 && eqb (get_or s (at + 1) 0) 10)
+    unfolding starts_crlf
+    crlf_is = rw (drop2 s at (omega arith))
+
+    blank_is : starts_blank (drop (at + 2) s) ≡ is_blank (get_or s (at + 2) 0)
+    unfolding starts_blank
+    blank_is = rw (drop1 s (at + 2) (omega arith))
+
+    pub no_fold : (x ≡ y → ⊥) → false ≡ folds
+    no_fold n = rw crlf_is (go (eqb (get_or s at 0) 13) (eqb (get_or s (at + 1) 0) 10) refl refl)
+      where
+        go : (t u : Bool) → eqb (get_or s at 0) 13 ≡ t → eqb (get_or s (at + 1) 0) 10 ≡ u → false ≡ ((t && u) && starts_blank (drop (at + 2) s))
+        go true true p q = absurd (n (omega (arith, eqb-true (get_or s at 0) 13 p, eqb-true (get_or s (at + 1) 0) 10 q)))
+        go true false p q = refl
+        go false u p q = refl
+
+    module _ (e : x ≡ y) where
+      crlf_there : starts_crlf (drop at s) ≡ true
+      crlf_there = rw (crlf_is, eq-eqb (get_or s at 0) 13 (omega arith), eq-eqb (get_or s (at + 1) 0) 10 (omega arith))
+
+      pub space_there : get_or s (at + 2) 0 ≡ 32 → true ≡ folds
+      unfolding is_blank
+      space_there q = rw (crlf_there, blank_is, q)
+
+      pub tab_there : (get_or s (at + 2) 0 ≡ 32 → ⊥) → eqb (get_or s (at + 2) 0) 9 ≡ folds
+      unfolding is_blank
+      tab_there n = rw (crlf_there, blank_is, ne_eqb (get_or s (at + 2) 0) 32 n)
+
+module _ (s : List ℕ) (line end : ℕ) (e : value_end s line ≡ value_end s end) {g : Bool} (hg : g ≡ (starts_crlf (drop end s) && starts_blank (drop (end + 2) s))) where
+  module _ (q : g ≡ true) where
+    both : (starts_crlf (drop end s) ≡ true) × (starts_blank (drop (end + 2) s) ≡ true)
+    both = (and-eq-true_iff (starts_crlf (drop end s)) (starts_blank (drop (end + 2) s))).0 (sym hg ∙ q)
+
+    blank : not (starts_blank (drop (end + 2) s)) ≡ false
+    blank = rw both.1
+
+    module _ {next : ℕ} (hn : next ≡ end + 3) {k : ℕ} (hk : k ≡ next + run is_value (drop next s)) where
+      pub on_within : k ≤ next + (length s - next) → k ≤ length s
+      on_within = next_within s line end e refl both.0 refl refl blank hn hk
+
+      pub on_less : length s - k < length s - end
+      on_less = next_less s line end e refl both.0 refl refl blank hn hk
+
+      pub on_over : run is_value (drop k s) ≡ 0
+      on_over = next_over s line end e refl both.0 refl refl blank hn hk
+
+      pub on_read : value_end s line ≡ value_end s k
+      on_read = next_read s line end e refl both.0 refl refl blank hn hk
+
+  pub ends_at : g ≡ false → {c : Bool} → c ≡ starts_crlf (drop end s) → not c ≡ false → end ≡ value_end s line
+  ends_at q {c} hc n =
+      let y : starts_crlf (drop end s) ≡ true = sym hc ∙ not-false c n in
+      let z : not (starts_blank (drop (end + 2) s)) ≡ true = ap not (rw y at (sym hg ∙ q)) in
+      ends s line end e refl y refl refl z
+
+  pub ends_within : {c : Bool} → c ≡ starts_crlf (drop end s) → not c ≡ false → end < length s
+  ends_within {c} hc n = room s line end e hc (not-false c n)
+
+  pub ends_badly : {c : Bool} → c ≡ starts_crlf (drop end s) → not c ≡ true → run is_value (drop end s) ≡ 0 → length s ≡ value_end s line
+  ends_badly {c} hc n = ends_bad s line end e hc (not-true c n)

@@ -1,5 +1,5 @@
 -- What reading a message leaves for its later users.
-use Rattle.std.specs.Prelude.{false, not, cond, List, [], ◌∷◌, ◌++◌, ℕ, zero, suc, ◌+◌, ◌*◌, ◌-◌, eqb, ltb, length, get_or}
+use Rattle.std.specs.Prelude.{Result, Ok, Err, ◌≤◌, false, not, cond, List, [], ◌∷◌, ◌++◌, ℕ, zero, suc, ◌+◌, ◌*◌, ◌-◌, eqb, ltb, length, get_or}
 use Rattle.octets.specs.Classes.{bit, is_break, is_gap}
 use Rattle.octets.specs.Scans.{any}
 use Rattle.sip.specs.Lines.{Start, request, response, start_size, Field, bytes, Header, trim}
@@ -7,7 +7,11 @@ use Rattle.sip.specs.Profile.{number_of}
 use Rattle.sip.specs.Refusals.{Lines, unread, read, lines}
 use Rattle.sip.specs.Readings.{value_span}
 use Rattle.lines.specs.declared.Slot.{Slot}
+use Rattle.lines.specs.declared.StartLine.{StartLine}
+use Rattle.lines.specs.declared.StartLine.TheVariants.{Request, Status}
 use Rattle.lines.specs.declared.Message.{Message}
+use Rattle.lines.specs.declared.Unread.{Unread}
+use Rattle.lines.specs.declared.Unread.TheVariants.{TooLong, NoStartLine, BadFields, TooManyFields}
 
 -- the field that starts at place at of the message
 unfoldable pub slot_of : ℕ → Field → Slot
@@ -51,12 +55,21 @@ slot_at ns i =
     in
     cond (ltb i 96) here no_slot
 
+-- the lines by their lengths: the reason of 2 to 5 why they are not read, or 0; a response has neither method nor Request-URI, 0 then
+pub record Head : Type 0 where
+  pub reason : ℕ
+  pub method : ℕ
+  pub uri : ℕ
+  pub line : ℕ
+  pub rest : ℕ
+  pub count : ℕ
+
 -- what reading leaves: the lines by their lengths, and the slots of the listed fields
 pub record Indexed : Type 0 where
-  pub head : Message
+  pub head : Head
   pub slots : List ℕ
 
-abbrev pub unread_head : ℕ → Message
+abbrev pub unread_head : ℕ → Head
 unread_head reason = record { reason = reason; method = 0; uri = 0; line = 0; rest = 0; count = 0 }
 
 abbrev pub unread_index : ℕ → Indexed
@@ -94,3 +107,34 @@ index_of m (read l h) = read_index m l h
 -- a message by its lines
 unfoldable pub index : List ℕ → Indexed
 index m = index_of m (lines m)
+
+-- ---- what the code answers
+
+-- the number of the reason
+abbrev pub reason_of : Unread → ℕ
+reason_of TooLong = 2
+reason_of NoStartLine = 3
+reason_of BadFields = 4
+reason_of TooManyFields = 5
+
+-- the lengths of a start line
+abbrev pub method_of : StartLine → ℕ
+method_of (Request method uri) = method
+method_of (Status phrase) = 0
+
+abbrev pub uri_of : StartLine → ℕ
+uri_of (Request method uri) = uri
+uri_of (Status phrase) = 0
+
+-- no method is empty
+abbrev pub HasMethod : StartLine → Type 0
+HasMethod (Request method uri) = 1 ≤ method
+HasMethod (Status phrase) = Unit {0}
+
+-- a message that is read, and one that may not be, by their lines
+abbrev pub read_head : Message → Head
+read_head m = record { reason = 0; method = method_of m.start; uri = uri_of m.start; line = m.line; rest = m.rest; count = m.count }
+
+abbrev pub head_of : Result Message Unread → Head
+head_of (Ok m) = read_head m
+head_of (Err e) = unread_head (reason_of e)

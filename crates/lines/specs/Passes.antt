@@ -1,37 +1,50 @@
 -- What the passes inside this crate leave: over the start line of a message, over its fields, and over its slots.
-use Rattle.std.specs.Prelude.{◌≡◌, Bool, not, cond, ◌&&◌, List, [], ◌∷◌, ◌++◌, ℕ, zero, suc, ◌+◌, ◌*◌, ◌≤◌, ◌<◌, leb, eqb, ltb, length, set}
-use Rattle.std.proofs.Math.Option.{Option, none, some}
-use Rattle.octets.specs.Classes.{bit, is_break, is_gap}
-use Rattle.octets.specs.Scans.{run, any}
-use Rattle.sip.specs.Lines.{request_line, StatusLine, status_line, Start, response, start_of, start, start_size, trim}
+use Rattle.std.specs.Prelude.{Option, None, Some, Result, Ok, Err, IfSome, MatchOption, ◌≡◌, Bool, not, cond, ◌&&◌, List, [], ◌∷◌, ◌++◌, ℕ, zero, suc, ◌+◌, ◌*◌, ◌≤◌, ◌<◌, leb, eqb, ltb, length, drop, get_or, set, take}
+use Rattle.std.proofs.Math.Option.{Option as Maybe, none, some}
+use Rattle.octets.specs.Classes.{bit, is_break, is_gap, is_value, within}
+use Rattle.octets.specs.Scans.{run, any, same, same_text}
+use Rattle.sip.specs.Lines.{request_line, status_line, Start, start_of, start, start_size, trim}
+use Rattle.sip.specs.Profile.{name_of}
 use Rattle.sip.specs.Readings.{no_span, place}
 use Rattle.sip.specs.Values.{is_empty}
 use Rattle.sip.specs.declared.Span.{Span}
-use Rattle.lines.specs.Places.{named_at}
-use Rattle.lines.specs.Index.{slot_at, Indexed, unread_index, method_length, uri_length, no_slot}
+use Rattle.lines.specs.Places.{start_places, named_at}
+use Rattle.lines.specs.Sizes.{value_end}
+use Rattle.lines.specs.Index.{slot_at, Indexed, unread_index, method_length, uri_length, reason_of}
 use Rattle.lines.specs.declared.Slot.{Slot}
+use Rattle.lines.specs.declared.StartLine.{StartLine}
+use Rattle.lines.specs.declared.StartLine.TheVariants.{Request, Status}
+use Rattle.lines.specs.declared.Unread.{Unread}
+use Rattle.lines.specs.declared.Unread.TheVariants.{TooManyFields}
 use Rattle.lines.specs.declared.named.Named.{Named}
-use Rattle.lines.specs.declared.start.Lengths.{Lengths}
+use Rattle.lines.specs.declared.field.ValueAt.{ValueAt}
 use Rattle.lines.specs.declared.header.Ended.{Ended}
 use Rattle.lines.specs.declared.slots.Counted.{Counted}
 
 -- ---- the start line, by its lengths
 
-abbrev pub lengths_of : Option Start → Lengths
+-- the request line at the front of a text, and the status line
+unfoldable pub request_at : List ℕ → Option StartLine
+request_at s = start_places (start_of (request_line s) none)
+
+unfoldable pub status_at : List ℕ → Option StartLine
+status_at s = start_places (start_of none (status_line s))
+
+-- how many bytes a start line has
+abbrev pub line_size : StartLine → ℕ
+line_size (Request method uri) = method + uri + 11
+line_size (Status phrase) = phrase + 14
+
+-- a start line by its lengths: those of the method and the Request-URI, which a response has not, and that of the line. All are 0 where
+-- no start line stands
+pub record Lengths : Type 0 where
+  pub method : ℕ
+  pub uri : ℕ
+  pub line : ℕ
+
+abbrev pub lengths_of : Maybe Start → Lengths
 lengths_of none = record { method = 0; uri = 0; line = 0 }
 lengths_of (some l) = record { method = method_length l; uri = uri_length l; line = start_size l }
-
--- the request line at the front of a text
-unfoldable pub request_lengths : List ℕ → Lengths
-request_lengths s = lengths_of (start_of (request_line s) none)
-
-abbrev pub size_of : Option StatusLine → ℕ
-size_of none = 0
-size_of (some l) = start_size (response l)
-
--- how many bytes the status line has
-unfoldable pub status_size : List ℕ → ℕ
-status_size s = size_of (status_line s)
 
 -- the start line of either kind
 unfoldable pub start_lengths : List ℕ → Lengths
@@ -39,11 +52,40 @@ start_lengths s = lengths_of (start s)
 
 -- ---- over the fields
 
--- a look for a name at a place tells the name there, or nothing, with number 0
-pub record FoundName (s : List ℕ) (at : ℕ) (r : Named) : Type 0 where
-  pub found_named : named_at s at ≡ cond (eqb r.number 0) (named_at s at) r
-  pub found_number : r.number ≤ 18
-  pub found_value : r.value ≤ length s
+-- a name that is read has one of the 18 numbers or 0, and its value starts within the text
+pub record NameFits (s : List ℕ) (n : Named) : Type 0 where
+  pub number_fits : n.number ≤ 18
+  pub value_fits : n.value ≤ length s
+
+-- a look for a name at a place tells the name there, or nothing
+pub record FoundName (s : List ℕ) (at : ℕ) (r : Option Named) : Type 0 where
+  pub found_named : IfSome r (λ n. (named_at s at ≡ Some n) × NameFits s n)
+
+-- the same of twenty bytes, wherever they stand: the value that is told starts so many bytes after their place
+pub record FoundIn (name : List ℕ) (r : Option Named) : Type 0 where
+  pub found_in : (s : List ℕ) (at : ℕ) → take 20 (drop at s) ≡ name → at + 20 ≤ length s
+      → IfSome r (λ n. FoundName s at (Some (record { number = n.number; value = at + n.value })))
+
+-- four neighbouring bytes as one number
+abbrev pub quad : List ℕ → ℕ → ℕ
+quad s at = get_or s at 0 + 256 * get_or s (at + 1) 0 + 65536 * (get_or s (at + 2) 0 + 256 * get_or s (at + 3) 0)
+
+pub record Bytes (s : List ℕ) (at : ℕ) : Type 0 where
+  pub byte : (k : ℕ) → k < 4 → get_or s (at + k) 0 < 256
+
+-- the name of this number is spelt so, with its colon
+unfoldable pub spells : ℕ → List ℕ → Bool
+spells number t = within 1 18 number && (within 4 20 (length t) && same t (name_of number ++ 58 ∷ []))
+
+-- the number of the first of these spellings that the name is
+unfoldable pub among : List ℕ → List (List ℕ × ℕ) → Option ℕ
+among name [] = None
+among name (e ∷ es) = let others = among name es in cond (same_text e.0 name) (Some e.1) others
+
+-- a value is read at a place: where it ends, before the last CRLF, and whether it goes over several lines
+pub record ValueStands (s : List ℕ) (at : ℕ) (r : Option ValueAt) : Type 0 where
+  pub value_stands : MatchOption r (length s ≤ value_end s at)
+      (λ v. (v.end ≡ value_end s at) × (v.end < length s) × (v.folded ≡ not (eqb v.end (at + run is_value (drop at s)))))
 
 -- the slot of a field of that number whose value v stands at place at of the message
 unfoldable pub slot_for : ℕ → ℕ → List ℕ → Slot
@@ -53,8 +95,8 @@ slot_for number at v =
     record { number = number; start = p.start; len = p.len; folded = any is_break t }
 
 -- the same of a field that is listed
-unfoldable pub listed_slot : ℕ → ℕ → List ℕ → Slot
-listed_slot number at v = cond (eqb number 0) no_slot (slot_for number at v)
+unfoldable pub listed_slot : ℕ → ℕ → List ℕ → Option Slot
+listed_slot number at v = cond (eqb number 0) None (Some (slot_for number at v))
 
 -- its numbers have two bytes at most
 pub record Small (s : Slot) : Type 0 where
@@ -66,27 +108,28 @@ pub record Small (s : Slot) : Type 0 where
 abbrev pub stored : List ℕ → ℕ → Slot → List ℕ
 stored ns i s = set (set (set (set ns (4 * i) s.number) (4 * i + 1) s.start) (4 * i + 2) s.len) (4 * i + 3) (bit s.folded)
 
--- a slot is listed, and there is room for it after count others
-unfoldable pub keeps : ℕ → Slot → Bool
-keeps count s = not (eqb s.number 0) && ltb count 96
+-- a listed field is taken up after count others, where there is room for it: how many there are then, and the numbers
+abbrev pub more : ℕ → Option Slot → ℕ
+more count None = count
+more count (Some s) = cond (ltb count 96) (count + 1) count
 
-abbrev pub refused_end : ℕ → Ended
-refused_end reason = record { reason = reason; rest = 0; count = 0 }
+abbrev pub kept : List ℕ → ℕ → Option Slot → List ℕ
+kept ns count None = ns
+kept ns count (Some s) = cond (ltb count 96) (stored ns count s) ns
 
 -- the fields end with an empty line, after number of them
-unfoldable pub closed_end : ℕ → ℕ → ℕ → Ended
-closed_end number rest count = cond (leb number 96) (record { reason = 0; rest = rest; count = count }) (refused_end 5)
+unfoldable pub closed_end : ℕ → ℕ → ℕ → Result Ended Unread
+closed_end number rest count = cond (leb number 96) (Ok (record { rest = rest; count = count })) (Err TooManyFields)
 
 -- the message whose fields end so
-unfoldable pub settled : List ℕ → Ended → List ℕ → Indexed
-settled m e ns =
+abbrev pub settled : List ℕ → Result Ended Unread → List ℕ → Indexed
+settled m (Ok e) ns =
     let l = start_lengths m in
-    cond (eqb e.reason 0)
-    (record {
+    record {
       head = record { reason = 0; method = l.method; uri = l.uri; line = l.line; rest = e.rest; count = e.count };
       slots = ns;
-    })
-    (unread_index e.reason)
+    }
+settled m (Err e) ns = unread_index (reason_of e)
 
 -- ---- over the slots
 

@@ -1,14 +1,18 @@
 // A field: name, spaces or tabs, colon, value, CRLF. Its parts are places of the one text, so that no slice is made for each of them.
-ghost use Rattle.std.specs.Prelude.{◌≡◌, not, cond, ◌+◌, ◌≤◌, eqb, length, drop};
-ghost use Rattle.octets.specs.Classes.{class_table, is_value};
+// A struct of text and place would be taken apart and made anew at each call.
+ghost use Rattle.std.specs.Prelude.{◌≡◌, ◌&&◌, not, cond, ◌+◌, ◌-◌, ◌<◌, ◌≤◌, eqb, length, drop, unwrap_or, IfSome};
+ghost use Rattle.octets.specs.Classes.{bit, is_value};
 ghost use Rattle.octets.specs.Scans.{run};
 ghost use Rattle.sip.specs.Lines.{starts_crlf, starts_blank};
 ghost use Rattle.lines.specs.Places.{field_at};
 ghost use Rattle.lines.specs.Sizes.{colon_size, value_end};
+ghost use Rattle.lines.specs.Passes.{ValueStands};
 
-use crate::{FieldAt, scan, words};
+use crate::{FieldAt, scan};
+use octets::Class;
 
-// A CRLF stands at a place: the fields end there, and so may a value.
+// A CRLF stands at a place: the fields end there, and so may a value. Tried as the pattern `[b'\r', b'\n', ..]` of the rest: 3 instructions more
+// for each line of a folded value, which is 12% of a message of them.
 pub(crate) fn is_empty_line(s: &[u8], at: usize) -> bool
     ensures { result ≡ starts_crlf (drop at s.now) }
 {
@@ -25,159 +29,132 @@ pub(crate) fn is_empty_line(s: &[u8], at: usize) -> bool
     s[lf] == b'\n'
 }
 
-// A space or tab stands at a place: a value goes on there after a CRLF.
-fn is_blank(s: &[u8], at: usize) -> bool
-    ensures { result ≡ starts_blank (drop at s.now) }
+// A CRLF stands at a place that a space or tab follows: the value goes on there.
+fn goes_on(s: &[u8], at: usize) -> bool
+    requires { at ≤ length s.now }
+    ensures { result ≡ (starts_crlf (drop at s.now) && starts_blank (drop (at + 2) s.now)) }
 {
-    if s.len() <= at {
+    if s.len() - at < 3 {
         return false;
     }
-    if s[at] == b' ' {
+    if u16::from_le_bytes([s[at], s[at + 1]]) != u16::from_le_bytes(*b"\r\n") {
+        return false;
+    }
+    let next = s[at + 2];
+    if next == b' ' {
         return true;
     }
-    s[at] == b'\t'
+    next == b'\t'
 }
 
-// A CRLF stands there that no space or tab follows, so that the value ends. A control character behind it is left to a closer look.
+// A CRLF stands there that no space or tab follows, so that the value ends. A control character behind it is left to a closer look. Beside
+// `goes_on` it is a first look with one test of the third byte, which most lines pass.
 fn is_last_line(s: &[u8], line: usize) -> bool
     requires { line ≤ length s.now }
-    ensures { value_end s.now line ≡ cond result line (value_end s.now line) }
+    ensures { (value_end s.now line ≡ cond result line (value_end s.now line)) × (bit result ≤ length s.now - line) }
 {
     if s.len() - line < 3 {
         return false;
     }
-    let lf = line + 1;
-    if words::pair(s[line], s[lf]) != words::pair(b'\r', b'\n') {
+    if u16::from_le_bytes([s[line], s[line + 1]]) != u16::from_le_bytes(*b"\r\n") {
         return false;
     }
-    let next = line + 2;
-    b' ' < s[next]
+    b' ' < s[line + 2]
 }
 
-// Where the value ends whose first line ends at `line`, line by line. At the end of the text where its shape is bad.
-fn last_line(table: &[u8; 256], s: &[u8], line: usize) -> usize
-    requires { (table.now ≡ class_table) × (line ≤ length s.now) × (run is_value (drop line s.now) ≡ 0) }
-    ensures { result ≡ value_end s.now line }
+// Where the value ends whose first line ends at `line`, line by line: a turn passes over a whole one, so that no range fits. None where its
+// shape is bad.
+#[inline(always)]
+fn last_line(s: &[u8], line: usize) -> Option<usize>
+    requires { (line ≤ length s.now) × (run is_value (drop line s.now) ≡ 0) }
+    ensures { (unwrap_or result (length s.now) ≡ value_end s.now line) × IfSome result (λ e. e < length s.now) }
 {
     let mut end = line;
-    while is_empty_line(s, end) {
-        let after = end + 2;
-        if !is_blank(s, after) {
-            return end;
-        }
-        let next = end + 3;
-        end = scan::values(table, s, next);
+    while goes_on(s, end) {
+        end = Class::Value.end(s, end + 3);
     }
-    s.len()
+    if !is_empty_line(s, end) {
+        return None;
+    }
+    Some(end)
 }
 
 // The same, with a look first: most values have one line.
-fn value_end(table: &[u8; 256], s: &[u8], line: usize) -> usize
-    requires { (table.now ≡ class_table) × (line ≤ length s.now) × (run is_value (drop line s.now) ≡ 0) }
-    ensures { result ≡ value_end s.now line }
+#[inline(always)]
+fn value_end(s: &[u8], line: usize) -> Option<usize>
+    requires { (line ≤ length s.now) × (run is_value (drop line s.now) ≡ 0) }
+    ensures { (unwrap_or result (length s.now) ≡ value_end s.now line) × IfSome result (λ e. e < length s.now) }
 {
     if is_last_line(s, line) {
-        return line;
+        return Some(line);
     }
-    last_line(table, s, line)
+    last_line(s, line)
 }
 
-// Where the spaces or tabs and the colon end that stand at a place. The place itself where there is no colon.
-fn blanks_and_colon(table: &[u8; 256], s: &[u8], at: usize) -> usize
-    requires { (table.now ≡ class_table) × (at ≤ length s.now) }
-    ensures { (result ≡ at + colon_size (drop at s.now)) × (result ≤ length s.now) }
+// Where the spaces or tabs and the colon end that stand at a place. None where there is no colon.
+fn blanks_and_colon(s: &[u8], at: usize) -> Option<usize>
+    requires { at ≤ length s.now }
+    ensures { (unwrap_or result at ≡ at + colon_size (drop at s.now)) × IfSome result (λ v. (at < v) × (v ≤ length s.now)) }
 {
-    let colon = scan::blanks(table, s, at);
+    let colon = Class::Blank.end(s, at);
     if s.len() <= colon {
-        return at;
+        return None;
     }
     if s[colon] != b':' {
-        return at;
+        return None;
     }
-    colon + 1
+    Some(colon + 1)
 }
 
 // The same, with a look first at the place itself: most names have their colon right behind them.
-pub(crate) fn colon_end(table: &[u8; 256], s: &[u8], at: usize) -> usize
-    requires { (table.now ≡ class_table) × (at ≤ length s.now) }
-    ensures { (result ≡ at + colon_size (drop at s.now)) × (result ≤ length s.now) }
+pub(crate) fn colon_end(s: &[u8], at: usize) -> Option<usize>
+    requires { at ≤ length s.now }
+    ensures { (unwrap_or result at ≡ at + colon_size (drop at s.now)) × IfSome result (λ v. (at < v) × (v ≤ length s.now)) }
 {
     if s.len() <= at {
-        return at;
+        return None;
     }
     if s[at] == b':' {
-        return at + 1;
+        return Some(at + 1);
     }
-    blanks_and_colon(table, s, at)
+    blanks_and_colon(s, at)
 }
 
-// Where a value ends, and whether it goes over several lines. It ends at the end of the text where its shape is bad.
+// Where a value ends, and whether it goes over several lines.
 #[derive(Clone, Copy)]
 pub(crate) struct ValueAt {
     pub end: usize,
     pub folded: bool,
 }
 
-// The value at a place. Only the pass over a message's fields calls it: with a second caller it would no longer be inlined there.
-pub(crate) fn value_at(table: &[u8; 256], s: &[u8], at: usize) -> ValueAt
-    requires { (table.now ≡ class_table) × (at ≤ length s.now) }
-    ensures { (result.end ≡ value_end s.now at) × (result.folded ≡ not (eqb result.end (at + run is_value (drop at s.now)))) }
+// The value at a place. None where its shape is bad.
+#[inline(always)]
+pub(crate) fn value_at(s: &[u8], at: usize) -> Option<ValueAt>
+    requires { at ≤ length s.now }
+    ensures { ValueStands s.now at result }
 {
-    let line = scan::line(table, s, at);
-    let end = value_end(table, s, line);
-    ValueAt {
+    let line = scan::line(s, at);
+    let end = value_end(s, line)?;
+    Some(ValueAt {
         end,
         folded: end != line,
-    }
+    })
 }
 
-// The same, for the other reader of a field, with a loop of its own: with a second caller `last_line` would no longer be inlined either.
-fn any_value_at(table: &[u8; 256], s: &[u8], at: usize) -> ValueAt
-    requires { (table.now ≡ class_table) × (at ≤ length s.now) }
-    ensures { (result.end ≡ value_end s.now at) × (result.folded ≡ not (eqb result.end (at + run is_value (drop at s.now)))) }
-{
-    let first = scan::values(table, s, at);
-    let mut end = first;
-    while is_empty_line(s, end) {
-        let after = end + 2;
-        if !is_blank(s, after) {
-            return ValueAt {
-                end,
-                folded: end != first,
-            };
-        }
-        let next = end + 3;
-        end = scan::values(table, s, next);
-    }
-    let bad = s.len();
-    ValueAt {
-        end: bad,
-        folded: bad != first,
-    }
-}
-
-// The field at a place of a text, by the class table that is lent. Past the end nothing is named, so that no place needs a test.
-pub(crate) fn read(table: &[u8; 256], s: &[u8], at: usize) -> FieldAt
-    requires { table.now ≡ class_table }
+// The field at a place of a text. Past the end nothing is named, so that no place needs a test.
+pub(crate) fn read(s: &[u8], at: usize) -> Option<FieldAt>
     ensures { result ≡ field_at s.now at }
 {
-    let name = scan::tokens(table, s, at);
+    let name = Class::Token.end(s, at);
     if name <= at {
-        return FieldAt::Bad;
+        return None;
     }
-    let value = blanks_and_colon(table, s, name);
-    if value <= name {
-        return FieldAt::Bad;
-    }
-    let found = any_value_at(table, s, value);
-    let end = found.end;
-    if s.len() <= end {
-        return FieldAt::Bad;
-    }
-    FieldAt::Found {
+    let value = blanks_and_colon(s, name)?;
+    let found = value_at(s, value)?;
+    Some(FieldAt {
         name,
         value,
-        end,
+        end: found.end,
         folded: found.folded,
-    }
+    })
 }

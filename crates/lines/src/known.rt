@@ -1,234 +1,105 @@
 // The listed names as they are mostly written, with the colon right behind them: told at their place, the long ones four bytes at a time.
-ghost use Rattle.std.specs.Prelude.{◌+◌, ◌≤◌, length};
-ghost use Rattle.lines.specs.Passes.{FoundName};
+ghost use Rattle.std.specs.Prelude.{◌≡◌, true, ◌≤◌, length};
+ghost use Rattle.lines.specs.Passes.{FoundName, FoundIn, spells};
 
 use crate::named::Named;
 use crate::{names, words};
 
-// Another name, or one that is written otherwise.
-const OTHER: Named = Named {
-    number: 0,
-    value: 0,
-};
-
-fn via(s: &[u8], at: usize) -> Named
-    requires { at + 20 ≤ length s.now }
-    ensures { FoundName s.now at result }
+// The name of a number and how long it is, if those bytes start with it as it is spelt here, with its colon.
+#[inline(always)]
+fn told(name: &[u8; 20], number: usize, spelling: &[u8]) -> Option<Named>
+    requires { spells number spelling.now ≡ true }
+    ensures { FoundIn name.now result }
 {
-    if words::is(s, at, b"Via:") {
-        let value = at + 4;
-        return Named { number: 1, value };
+    if !words::stand(name, 0, spelling) {
+        return None;
     }
-    OTHER
+    Some(Named {
+        number,
+        value: spelling.len(),
+    })
 }
 
-fn max_forwards(s: &[u8], at: usize) -> Named
-    requires { at + 20 ≤ length s.now }
-    ensures { FoundName s.now at result }
+// A name of two bytes: the space after its colon makes a word of it, so that `told`, which takes a name and its colon, does not fit.
+fn to(name: &[u8; 20]) -> Option<Named>
+    ensures { FoundIn name.now result }
 {
-    if !words::both(s, at, b"Max-", 4, b"Forw") {
-        return OTHER;
+    if !words::stand(name, 0, b"To: ") {
+        return None;
     }
-    let next = at + 8;
-    if words::both(s, next, b"ards", 1, b"rds:") {
-        let value = at + 13;
-        return Named { number: 2, value };
-    }
-    OTHER
+    Some(Named {
+        number: 4,
+        value: 3,
+    })
 }
 
-fn from(s: &[u8], at: usize) -> Named
-    requires { at + 20 ≤ length s.now }
-    ensures { FoundName s.now at result }
+#[tactic(auto, unfolding(crate::specs::Passes::spells, sip::specs::Profile::name_of, sip::specs::Profile::find, sip::specs::Profile::rows, octets::specs::Classes::text, octets::specs::Scans::same))]
+fn with_a(name: &[u8; 20]) -> Option<Named>
+    ensures { FoundIn name.now result }
 {
-    if words::both(s, at, b"From", 1, b"rom:") {
-        let value = at + 5;
-        return Named { number: 3, value };
-    }
-    OTHER
+    told(name, 12, b"Allow:").or_else(|| told(name, 17, b"Accept:"))
 }
 
-// A name of two bytes: the space after its colon makes a word of it.
-fn to(s: &[u8], at: usize) -> Named
-    requires { at + 20 ≤ length s.now }
-    ensures { FoundName s.now at result }
+#[tactic(auto, unfolding(crate::specs::Passes::spells, sip::specs::Profile::name_of, sip::specs::Profile::find, sip::specs::Profile::rows, octets::specs::Classes::text, octets::specs::Scans::same))]
+fn with_c(name: &[u8; 20]) -> Option<Named>
+    ensures { FoundIn name.now result }
 {
-    if words::is(s, at, b"To: ") {
-        let value = at + 3;
-        return Named { number: 4, value };
-    }
-    OTHER
+    told(name, 6, b"CSeq:")
+        .or_else(|| told(name, 5, b"Call-ID:"))
+        .or_else(|| told(name, 7, b"Contact:"))
+        .or_else(|| told(name, 8, b"Content-Length:"))
+        .or_else(|| told(name, 9, b"Content-Type:"))
 }
 
-fn supported(s: &[u8], at: usize) -> Named
-    requires { at + 20 ≤ length s.now }
-    ensures { FoundName s.now at result }
+#[tactic(auto, unfolding(crate::specs::Passes::spells, sip::specs::Profile::name_of, sip::specs::Profile::find, sip::specs::Profile::rows, octets::specs::Classes::text, octets::specs::Scans::same))]
+fn with_r(name: &[u8; 20]) -> Option<Named>
+    ensures { FoundIn name.now result }
 {
-    if !words::both(s, at, b"Supp", 2, b"ppor") {
-        return OTHER;
-    }
-    let next = at + 6;
-    if words::is(s, next, b"ted:") {
-        let value = at + 10;
-        return Named { number: 13, value };
-    }
-    OTHER
+    told(name, 10, b"Route:")
+        .or_else(|| told(name, 14, b"Require:"))
+        .or_else(|| told(name, 11, b"Reason:"))
+        .or_else(|| told(name, 18, b"Record-Route:"))
 }
 
-fn with_a(s: &[u8], at: usize) -> Named
-    requires { at + 20 ≤ length s.now }
-    ensures { FoundName s.now at result }
+// A long name at the front of twenty bytes, by its first letter.
+#[tactic(auto, unfolding(crate::specs::Passes::spells, sip::specs::Profile::name_of, sip::specs::Profile::find, sip::specs::Profile::rows, octets::specs::Classes::text, octets::specs::Scans::same))]
+fn long(name: &[u8; 20]) -> Option<Named>
+    ensures { FoundIn name.now result }
 {
-    if words::both(s, at, b"Allo", 2, b"low:") {
-        let value = at + 6;
-        return Named { number: 12, value };
-    }
-    if words::both(s, at, b"Acce", 3, b"ept:") {
-        let value = at + 7;
-        return Named { number: 17, value };
-    }
-    OTHER
-}
-
-fn content(s: &[u8], at: usize) -> Named
-    requires { at + 20 ≤ length s.now }
-    ensures { FoundName s.now at result }
-{
-    if !words::both(s, at, b"Cont", 4, b"ent-") {
-        return OTHER;
-    }
-    let next = at + 8;
-    if words::both(s, next, b"Leng", 3, b"gth:") {
-        let value = at + 15;
-        return Named { number: 8, value };
-    }
-    if words::both(s, next, b"Type", 1, b"ype:") {
-        let value = at + 13;
-        return Named { number: 9, value };
-    }
-    OTHER
-}
-
-fn with_c(s: &[u8], at: usize) -> Named
-    requires { at + 20 ≤ length s.now }
-    ensures { FoundName s.now at result }
-{
-    if words::both(s, at, b"CSeq", 1, b"Seq:") {
-        let value = at + 5;
-        return Named { number: 6, value };
-    }
-    if words::both(s, at, b"Call", 4, b"-ID:") {
-        let value = at + 8;
-        return Named { number: 5, value };
-    }
-    if words::both(s, at, b"Cont", 4, b"act:") {
-        let value = at + 8;
-        return Named { number: 7, value };
-    }
-    content(s, at)
-}
-
-fn record_route(s: &[u8], at: usize) -> Named
-    requires { at + 20 ≤ length s.now }
-    ensures { FoundName s.now at result }
-{
-    if !words::both(s, at, b"Reco", 4, b"rd-R") {
-        return OTHER;
-    }
-    let next = at + 8;
-    if words::both(s, next, b"oute", 1, b"ute:") {
-        let value = at + 13;
-        return Named { number: 18, value };
-    }
-    OTHER
-}
-
-fn with_r(s: &[u8], at: usize) -> Named
-    requires { at + 20 ≤ length s.now }
-    ensures { FoundName s.now at result }
-{
-    if words::both(s, at, b"Rout", 2, b"ute:") {
-        let value = at + 6;
-        return Named { number: 10, value };
-    }
-    if words::both(s, at, b"Requ", 4, b"ire:") {
-        let value = at + 8;
-        return Named { number: 14, value };
-    }
-    if words::both(s, at, b"Reas", 3, b"son:") {
-        let value = at + 7;
-        return Named { number: 11, value };
-    }
-    record_route(s, at)
-}
-
-fn asserted_identity(s: &[u8], at: usize) -> Named
-    requires { at + 20 ≤ length s.now }
-    ensures { FoundName s.now at result }
-{
-    if !words::both(s, at, b"P-As", 4, b"sert") {
-        return OTHER;
-    }
-    let next = at + 8;
-    if !words::both(s, next, b"ed-I", 4, b"dent") {
-        return OTHER;
-    }
-    let last = at + 16;
-    if words::is(s, last, b"ity:") {
-        let value = at + 20;
-        return Named { number: 15, value };
-    }
-    OTHER
-}
-
-fn with_p(s: &[u8], at: usize) -> Named
-    requires { at + 20 ≤ length s.now }
-    ensures { FoundName s.now at result }
-{
-    if words::both(s, at, b"Priv", 4, b"acy:") {
-        let value = at + 8;
-        return Named { number: 16, value };
-    }
-    asserted_identity(s, at)
-}
-
-// A long name, by its first letter.
-fn long(s: &[u8], at: usize) -> Named
-    requires { at + 20 ≤ length s.now }
-    ensures { FoundName s.now at result }
-{
-    let first = s[at];
-    match first {
-        b'V' => via(s, at),
-        b'M' => max_forwards(s, at),
-        b'F' => from(s, at),
-        b'T' => to(s, at),
-        b'C' => with_c(s, at),
-        b'R' => with_r(s, at),
-        b'A' => with_a(s, at),
-        b'S' => supported(s, at),
-        b'P' => with_p(s, at),
-        _ => OTHER,
+    match name[0] {
+        b'V' => told(name, 1, b"Via:"),
+        b'M' => told(name, 2, b"Max-Forwards:"),
+        b'F' => told(name, 3, b"From:"),
+        b'T' => to(name),
+        b'C' => with_c(name),
+        b'R' => with_r(name),
+        b'A' => with_a(name),
+        b'S' => told(name, 13, b"Supported:"),
+        b'P' => told(name, 16, b"Privacy:").or_else(|| told(name, 15, b"P-Asserted-Identity:")),
+        _ => None,
     }
 }
 
 // The name at a place. The longest has 20 bytes with its colon, so that most fields have room for the look.
-pub(crate) fn read(s: &[u8], at: usize) -> Named
+pub(crate) fn read(s: &[u8], at: usize) -> Option<Named>
     requires { at ≤ length s.now }
     ensures { FoundName s.now at result }
 {
     let left = s.len() - at;
     if left < 2 {
-        return OTHER;
+        return None;
     }
-    let colon = at + 1;
-    if s[colon] == b':' {
-        let value = at + 2;
-        let number = names::compact(s[at]);
-        return Named { number, value };
+    if s[at + 1] == b':' {
+        let number = names::compact(s[at])?;
+        return Some(Named {
+            number,
+            value: at + 2,
+        });
     }
-    if left < 20 {
-        return OTHER;
-    }
-    long(s, at)
+    let name = s[at..].first_chunk::<20>()?;
+    let found = long(name)?;
+    Some(Named {
+        number: found.number,
+        value: at + found.value,
+    })
 }

@@ -1,23 +1,10 @@
 // Count and reading of the fields of a number, out of the slots of a message.
-ghost use Rattle.std.specs.Prelude.{◌≡◌, ◌+◌, ◌≤◌, ◌<◌, get_or};
+ghost use Rattle.std.specs.Prelude.{◌≡◌, ◌+◌, ◌≤◌, ◌<◌};
 ghost use Rattle.lines.specs.Index.{slot_at};
-ghost use Rattle.lines.specs.Passes.{at_most96, first_slots, spans_in, counted_in, counting};
+ghost use Rattle.lines.specs.Passes.{first_slots, spans_in, counted_in, counting};
 
 use crate::Slot;
 use sip::Span;
-
-fn wide(n: u16) -> usize
-    ensures { (result ≡ n) × (result < 65536) }
-{
-    n as usize
-}
-
-fn number_at(slots: &[u16; 384], i: usize) -> usize
-    requires { i < 384 }
-    ensures { (result ≡ get_or slots.now i 0) × (result < 65536) }
-{
-    wide(slots[i])
-}
 
 // The i-th slot, from 0.
 pub(crate) fn slot_at(slots: &[u16; 384], i: usize) -> Slot
@@ -33,29 +20,25 @@ pub(crate) fn slot_at(slots: &[u16; 384], i: usize) -> Slot
     }
     let at = 4 * i;
     Slot {
-        number: number_at(slots, at),
-        start: number_at(slots, at + 1),
-        len: number_at(slots, at + 2),
-        folded: number_at(slots, at + 3) != 0,
+        number: usize::from(slots[at]),
+        start: usize::from(slots[at + 1]),
+        len: usize::from(slots[at + 2]),
+        folded: slots[at + 3] != 0,
     }
 }
 
-// There are 96 slots.
-pub(crate) fn at_most_96(count: usize) -> usize
-    ensures { (result ≡ at_most96 count) × (result ≤ 96) }
-{
-    if 96 < count {
-        return 96;
-    }
-    count
-}
-
-// How many fields there are of a number, and where the value of the k-th of them stands.
+// How many fields there are of a number, and where the value of the k-th of them stands. An empty place is that of none,
+// as sip's `place` says it and C gets it.
 #[derive(Clone, Copy)]
 pub(crate) struct Counted {
     pub count: usize,
     pub span: Span,
 }
+
+pub(crate) const NONE: Counted = Counted {
+    count: 0,
+    span: Span { start: 0, len: 0 },
+};
 
 // Counts a slot in where it has number n.
 fn with_slot(found: Counted, s: Slot, n: u64, k: u64) -> Counted
@@ -67,8 +50,7 @@ fn with_slot(found: Counted, s: Slot, n: u64, k: u64) -> Counted
     }
     let count = found.count + 1;
     if count as u64 != k {
-        let span = found.span;
-        return Counted { count, span };
+        return Counted { count, ..found };
     }
     Counted {
         count,
@@ -84,14 +66,9 @@ pub(crate) fn find(slots: &[u16; 384], listed: usize, n: u64, k: u64) -> Counted
     requires { listed ≤ 96 }
     ensures { result ≡ counted_in k (spans_in n (first_slots listed slots.now)) }
 {
-    let mut found = Counted {
-        count: 0,
-        span: Span { start: 0, len: 0 },
-    };
-    let mut i = 0;
-    while i < listed {
+    let mut found = NONE;
+    for i in 0..listed {
         found = with_slot(found, slot_at(slots, i), n, k);
-        i += 1;
     }
     found
 }

@@ -1,44 +1,41 @@
 // The start line of a response: SIP version, space, three digits, space, phrase, CRLF.
 ghost use Rattle.std.specs.Prelude.{◌≡◌, take};
-ghost use Rattle.octets.specs.Classes.{class_table};
 ghost use Rattle.sip.specs.Lines.{is_version_first};
-ghost use Rattle.lines.specs.Passes.{status_size};
+ghost use Rattle.lines.specs.Passes.{status_at};
 
-use crate::{field, scan, words};
+use crate::{StartLine, field, words};
+use octets::Class;
 
-// The SIP version and one space stand at the front: in capitals, as it is mostly written, or in any letter case.
+// The SIP version and one space stand at the front: in capitals, as it is mostly written, or in any letter case. It is no one function with
+// `start::is_version`: that would take the text, the place and the room as well, and be no shorter than the two calls.
 fn is_version(s: &[u8]) -> bool
     ensures { result ≡ is_version_first (take 8 s.now) }
 {
     if s.len() < 8 {
         return false;
     }
-    if words::both(s, 0, b"SIP/", 4, b"2.0 ") {
-        return true;
-    }
-    octets::same_text(b"SIP/2.0 ", &s[0..8])
+    words::stand(s, 0, b"SIP/2.0 ") || octets::same_text(b"SIP/2.0 ", &s[0..8])
 }
 
-// The bytes of the status line at the front of a text, by the class table that is lent. 0 where there is none.
-pub(crate) fn size(table: &[u8; 256], s: &[u8]) -> usize
-    requires { table.now ≡ class_table }
-    ensures { result ≡ status_size s.now }
+// The status line at the front of a text.
+pub(crate) fn read(s: &[u8]) -> Option<StartLine>
+    ensures { result ≡ status_at s.now }
 {
     if !is_version(s) {
-        return 0;
+        return None;
     }
-    if scan::digits(table, s, 8) != 11 {
-        return 0;
+    if Class::Digit.end(s, 8) != 11 {
+        return None;
     }
     if s.len() <= 11 {
-        return 0;
+        return None;
     }
     if s[11] != b' ' {
-        return 0;
+        return None;
     }
-    let end = scan::values(table, s, 12);
+    let end = Class::Value.end(s, 12);
     if !field::is_empty_line(s, end) {
-        return 0;
+        return None;
     }
-    end + 2
+    Some(StartLine::Status { phrase: end - 12 })
 }

@@ -10,18 +10,13 @@ use sip::Span;
 fn end_of(s: &[u8]) -> usize
     ensures { (result ≡ length (trim_end is_gap s.now)) × (result ≤ length s.now) }
 {
-    let mut end = s.len();
-    while 0 < end {
-        let last = end - 1;
-        if !octets::is_gap(s[last]) {
-            return end;
-        }
-        end = last;
+    match s.iter().rposition(|&b| !octets::is_gap(b)) {
+        Some(last) => last + 1,
+        None => 0,
     }
-    0
 }
 
-// The part from the first byte that is no gap to the last. It is empty where there is none.
+// The part from the first byte that is no gap to the last. It is empty and starts at 0 where there is none, as `value_part` says it.
 pub(crate) fn trimmed(s: &[u8]) -> Span
     ensures { (result ≡ value_part s.now) × (result.start + result.len ≤ length s.now) }
 {
@@ -46,6 +41,5 @@ pub(crate) fn is_plain(s: &[u8]) -> bool
     if s[1] <= b' ' {
         return false;
     }
-    let last = s.len() - 1;
-    b' ' < s[last]
+    b' ' < s[s.len() - 1]
 }

@@ -4,7 +4,6 @@
 ghost use Rattle.std.specs.Prelude.{◌≡◌, ◌+◌, ◌≤◌, length};
 ghost use Rattle.causes.specs.Causes.{status, cause};
 ghost use Rattle.sip.specs.Readings.{count, reading_at};
-ghost use Rattle.octets.specs.Classes.{bit};
 ghost use Rattle.sip.specs.Calls.{removed, ending};
 ghost use Rattle.sip.specs.Screen.{screened};
 ghost use Rattle.calls.specs.Places.{pair};
@@ -14,7 +13,9 @@ ghost use Rattle.records.specs.Report.{printed};
 ghost use Rattle.records.specs.Running.{finished, taken, counts_report};
 ghost use Rattle.mishkolar.specs.Numbers.{Screens, Calls, replay_of, Counted};
 
-use gateway::Verdict;
+use calls::Pair;
+use causes::{CauseAnswer, StatusAnswer};
+use gateway::{CallingAt, Verdict};
 use records::Replay;
 
 #[unsafe(no_mangle)]
@@ -52,7 +53,10 @@ pub extern "C" fn mishkolar_screen(
 pub extern "C" fn mishkolar_end_call(calls: &mut [u8; 6208], call_id: &[u8], tag: &[u8]) -> u64
     ensures { (result ≡ ending (pair call_id.now tag.now) calls.old) × (calls.new ≡ removed (pair call_id.now tag.now) calls.old) }
 {
-    calls::end(calls, call_id, tag)
+    match calls::end(calls, Pair { call_id, tag }) {
+        Ok(()) => 0,
+        Err(e) => e.refusal(),
+    }
 }
 
 #[unsafe(no_mangle)]
@@ -80,7 +84,7 @@ pub extern "C" fn mishkolar_reading(
 pub extern "C" fn mishkolar_status_of_cause(value: u64, row: &mut u64, refusal: &mut u64) -> u64
     ensures { (result ≡ (status value).status) × (row.new ≡ (status value).row) × (refusal.new ≡ (status value).refusal) }
 {
-    let answer = causes::status_of_cause(value);
+    let answer = StatusAnswer::from(causes::status_of_cause(value));
     *row = answer.row;
     *refusal = answer.refusal;
     answer.status
@@ -90,7 +94,7 @@ pub extern "C" fn mishkolar_status_of_cause(value: u64, row: &mut u64, refusal: 
 pub extern "C" fn mishkolar_cause_of_status(code: u64, refusal: &mut u64) -> u64
     ensures { (result ≡ (cause code).cause) × (refusal.new ≡ (cause code).refusal) }
 {
-    let answer = causes::cause_of_status(code);
+    let answer = CauseAnswer::from(causes::cause_of_status(code));
     *refusal = answer.refusal;
     answer.cause
 }
@@ -104,16 +108,20 @@ pub extern "C" fn mishkolar_calling_number(
 ) -> usize
     ensures { Calls message.now trunk.now result start.new from_trunk.new }
 {
-    let p = gateway::calling_at(message, trunk);
-    *start = p.start;
-    *from_trunk = flag(p.from_trunk);
-    p.len
-}
-
-fn flag(b: bool) -> u64
-    ensures { result ≡ bit b }
-{
-    if b { 1 } else { 0 }
+    match gateway::calling_at(message, trunk) {
+        None => {
+            (*start, *from_trunk) = (0, 0);
+            0
+        }
+        Some(CallingAt::Trunk(p)) => {
+            (*start, *from_trunk) = (p.start, 1);
+            p.len
+        }
+        Some(CallingAt::Message(p)) => {
+            (*start, *from_trunk) = (p.start, 0);
+            p.len
+        }
+    }
 }
 
 #[unsafe(no_mangle)]
@@ -127,6 +135,7 @@ pub extern "C" fn mishkolar_take_record(
 )
     ensures { replay_of counts.new read.new end.new calls.new ≡ taken (replay_of counts.old read.old end.old calls.old) side message.now }
 {
+    // C holds the three numbers of a replay apart.
     let before = Replay {
         counts: *counts,
         read: *read,

@@ -1,8 +1,8 @@
 -- The numbers that the C boundary of the box hands out, and what it leaves in the lent arrays, are those of a definition's answer.
 use Rattle.std.specs.Prelude.{◌≡◌, List, ◌++◌, ℕ, take, drop}
 use Rattle.octets.specs.Classes.{bit}
-use Rattle.isup.specs.declared.Parameter.{Parameter}
-use Rattle.isup.specs.declared.Caller.{Caller}
+use Rattle.isup.specs.Answers.{Parameter}
+use Rattle.isup.specs.Answers.{Caller}
 
 -- the first bytes of an array are written, and those past them stay; none is written where there is nothing
 abbrev pub written : ℕ → List ℕ → List ℕ → List ℕ

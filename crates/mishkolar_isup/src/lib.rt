@@ -1,8 +1,8 @@
-// What a gateway in C or Rust calls of the box for the old exchange: numbers, byte slices and lent arrays only.
+// What a gateway in C or Rust calls of the box for the old exchange: numbers, byte slices and lent arrays only,
+// since the names and signatures stand in include/mishkolar_isup.h.
 #![tactic(auto)]
 
 ghost use Rattle.std.specs.Prelude.{◌≡◌, not, eqb};
-ghost use Rattle.octets.specs.Classes.{bit};
 ghost use Rattle.isup.specs.Forward.{produced};
 ghost use Rattle.isup.specs.Backward.{decoded, status_for};
 ghost use Rattle.mishkolar_isup.specs.Numbers.{Gives, Calls};
@@ -21,15 +21,24 @@ pub extern "C" fn mishkolar_isup_parameter(
     ensures { Gives (produced message.now code.now (not (eqb home 0))) reason.new reply.new detail.new
         missing.new result parameter.old parameter.new }
 {
-    let p = isup::parameter_of(message, code, home != 0);
-    let refusal = p.refusal;
-    *reason = refusal.reason;
-    *reply = refusal.reply;
-    *detail = refusal.detail;
-    *missing = refusal.missing;
-    let bytes = p.bytes;
-    emit::put(parameter, 0, octets::first(&bytes, p.len));
-    p.len
+    match isup::parameter_of(message, code, home != 0) {
+        Ok(octets) => {
+            *reason = 0;
+            *reply = 0;
+            *detail = 0;
+            *missing = 0;
+            emit::put(parameter, 0, octets.as_slice());
+            octets.len()
+        }
+        Err(why) => {
+            let refusal = why.refusal();
+            *reason = refusal.reason;
+            *reply = refusal.reply;
+            *detail = refusal.detail;
+            *missing = refusal.missing;
+            0
+        }
+    }
 }
 
 #[unsafe(no_mangle)]
@@ -42,25 +51,33 @@ pub extern "C" fn mishkolar_isup_caller(
 ) -> usize
     ensures { Calls (decoded code.now bytes.now) id.new refusal.new result number.old number.new }
 {
-    let c = isup::caller_of(bytes, code);
-    *id = flag(c.id);
-    *refusal = c.refusal;
-    let digits = c.number;
-    emit::put(number, 0, octets::first(&digits, c.len));
-    c.len
-}
-
-fn flag(b: bool) -> u64
-    ensures { result ≡ bit b }
-{
-    if b { 1 } else { 0 }
+    match isup::caller_of(bytes, code) {
+        Ok(caller) => {
+            *id = u64::from(caller.id);
+            *refusal = 0;
+            emit::put(number, 0, caller.number.as_slice());
+            caller.number.len()
+        }
+        Err(why) => {
+            *id = 0;
+            *refusal = why.refusal();
+            0
+        }
+    }
 }
 
 #[unsafe(no_mangle)]
 pub extern "C" fn mishkolar_isup_status(cause: u64, refusal: &mut u64) -> u64
     ensures { (result ≡ (status_for cause).status) × (refusal.new ≡ (status_for cause).refusal) }
 {
-    let answer = isup::status_of(cause);
-    *refusal = answer.refusal;
-    answer.status
+    match isup::status_of(cause) {
+        Ok(status) => {
+            *refusal = 0;
+            status
+        }
+        Err(why) => {
+            *refusal = why.number();
+            0
+        }
+    }
 }

@@ -1,17 +1,35 @@
 -- Laws of `escape` and `run_escaped`, by induction on the text; at a place, by the one or three bytes that stand there.
 use mathlib.Core.Path.{◌≡◌, refl, sym, ap, ◌∙◌}
-use mathlib.Core.Bool.{Bool, true, false, cond, ◌&&◌}
+use mathlib.Core.Bool.{Bool, true, false, true≢false, cond, ◌&&◌, ◌||◌}
 use mathlib.Core.List.{List, [], ◌∷◌}
 use Prim.Native.Nat.{ℕ, zero, suc, ◌+◌, ◌-◌, ◌≤◌, ◌<◌}
 use native.Mathlib.Omega.{arith}
-use lib.Dec.{eqb}
+use lib.Dec.{eqb, ltb}
 use lib.ListN.{length, drop, get_or, drop_of_length-le, length-drop}
-use Rattle.octets.specs.Classes.{is_hex}
+use borrow.Author.Tests.{ltb-true, ltb-false}
+use Rattle.std.specs.Char.{is_ascii_hexdigit}
+use Rattle.octets.specs.Classes.{within, is_digit, is_hex}
 use Rattle.octets.specs.Scans.{run, escape, run_escaped}
 use Rattle.octets.proofs.Places.{drop1, drop3}
 use Rattle.octets.proofs.Runs.{by_first, run_nil, run_yes, run_no}
 
-few : (s : List ℕ) → length s < 3 → escape s ≡ false
+pub hex_test : (b : ℕ) → is_ascii_hexdigit b ≡ is_hex b
+unfolding is_hex is_digit
+hex_test b = assoc (within 48 57 b) (within 65 70 b) (within 97 102 b)
+  where
+    assoc : (t u v : Bool) → ((t || u) || v) ≡ (t || (u || v))
+    assoc true u v = refl
+    assoc false u v = refl
+
+-- three bytes at the front of a text
+pub escape_front : (s : List ℕ) → 3 ≤ length s → escape s ≡ (eqb (get_or s 0 0) 37 && (is_hex (get_or s 1 0) && is_hex (get_or s 2 0)))
+unfolding escape
+escape_front [] h = absurd (omega arith)
+escape_front (a ∷ []) h = absurd (omega arith)
+escape_front (a ∷ b ∷ []) h = absurd (omega arith)
+escape_front (a ∷ b ∷ c ∷ s) h = refl
+
+pub few : (s : List ℕ) → length s < 3 → escape s ≡ false
 unfolding escape
 few [] h = refl
 few (a ∷ []) h = refl
@@ -25,6 +43,17 @@ pub escape_place : (s : List ℕ) (i : ℕ) → i + 2 < length s
     → escape (drop i s) ≡ (eqb (get_or s i 0) 37 && (is_hex (get_or s (i + 1) 0) && is_hex (get_or s (i + 2) 0)))
 unfolding escape
 escape_place s i h = rw (drop3 s i h)
+
+-- an escape has three bytes
+pub escape_long : (s : List ℕ) (i : ℕ) → escape (drop i s) ≡ true → i + 2 < length s
+escape_long s i e = go (ltb (i + 2) (length s)) refl
+  where
+    go : (t : Bool) → ltb (i + 2) (length s) ≡ t → i + 2 < length s
+    go true h = ltb-true (i + 2) (length s) h
+    go false h =
+        let k : length s ≤ i + 2 = ltb-false (i + 2) (length s) h in
+        let z : false ≡ true = sym (escape_short s i (omega arith)) ∙ e in
+        absurd (true≢false (sym z))
 
 module _ (p : ℕ → Bool) where
   pub run_escaped_le : (k : ℕ) (s : List ℕ) → run_escaped p k s ≤ length s

@@ -5,6 +5,9 @@ use mathlib.Core.List.{List, [], ◌∷◌}
 use Prim.Native.Nat.{ℕ, suc, ◌+◌, ◌-◌, ◌*◌, ◌≤◌, ◌<◌}
 use native.Mathlib.Omega.{arith}
 use lib.Dec.{leb}
+use Rattle.std.specs.Char.{is_ascii_digit}
+use Rattle.std.specs.Option.{unwrap_or, IfSome}
+use Rattle.std.proofs.Common.{Option, Some, None}
 use lib.ListN.{length, take, drop, get_or}
 use borrow.Author.Tests.{le-leb, lt-leb, leb-true}
 use Rattle.octets.specs.Classes.{within, is_digit}
@@ -18,18 +21,10 @@ unfolding decimal
 decimal_grows n [] = omega arith
 decimal_grows n (b ∷ s) = omega (arith, decimal_grows (n * 10 + (b - 48)) s)
 
-module _ (b : ℕ) where
-  pub digit_low : b < 48 → is_digit b ≡ false
-  unfolding is_digit
-  digit_low h = rw (lt-leb 48 b h)
-
-  pub digit_high : 57 < b → is_digit b ≡ false
-  unfolding is_digit
-  digit_high h = rw (lt-leb b 57 h) (and-false (leb 48 b))
-
-  pub digit_in : 48 ≤ b → b ≤ 57 → is_digit b ≡ true
-  unfolding is_digit
-  digit_in h k = rw (le-leb 48 b h, le-leb b 57 k)
+-- the library's tests of one byte
+pub digit_test : (b : ℕ) → is_ascii_digit b ≡ is_digit b
+unfolding is_digit
+digit_test b = refl
 
 -- the digits at the front
 abbrev pub digits : List ℕ → List ℕ
@@ -55,8 +50,10 @@ module _ (most bound : ℕ) (s : List ℕ) where
   number_value = (sized (within 1 most (run is_digit s) && leb (decimal 0 (digits s)) bound) refl).1
 
   -- the bounds follow from what the number is
-  pub bounds : {r : NumberAt} → r ≡ number most bound s → (r ≡ number most bound s) × (r.size ≤ length s) × (r.value ≤ bound)
-  bounds e = (e, rw e number_le, rw e number_value)
+  pub answer : (r : Option NumberAt) → unwrap_or r no_number ≡ number most bound s → IfSome r (λ n. 1 ≤ n.size)
+      → (unwrap_or r no_number ≡ number most bound s) × IfSome r (λ n. (1 ≤ n.size) × (n.size ≤ length s) × (n.value ≤ bound))
+  answer None e h = (e, tt)
+  answer (Some n) e h = (e, (h, rw e number_le, rw e number_value))
 
 -- ---- a loop over the digits: i of them are passed and write v
 
@@ -69,18 +66,18 @@ module _ (s : List ℕ) (i v : ℕ) (e : run is_digit s ≡ i + run is_digit (dr
         let w : decimal 0 (digits s) ≡ v = d ∙ rw z in
         hr ∙ rw (w, n, le-leb v bound l, and-true (within 1 most i))
 
-    pub at_end : length s ≤ i → r ≡ number most bound s
-    at_end h = done (run_end is_digit s i h)
+    pub at_other : i < length s → is_digit (get_or s i 0) ≡ false → r ≡ number most bound s
+    at_other h n = done (run_stop is_digit s i h n)
 
-    pub at_low : i < length s → get_or s i 0 < 48 → r ≡ number most bound s
-    at_low h k = done (run_stop is_digit s i h (digit_low (get_or s i 0) k))
+  pub at_end : (most bound : ℕ) → v ≤ bound → {r : NumberAt} → r ≡ cond (within 1 most (length s)) (record { size = length s; value = v }) no_number
+      → i ≤ length s → length s ≤ i → r ≡ number most bound s
+  at_end most bound l hr k h =
+      let n : length s ≡ i = omega arith in
+      done most bound l (hr ∙ ap (λ (m : ℕ). cond (within 1 most m) (record { size = m; value = v }) no_number) n) (run_end is_digit s i h)
 
-    pub at_high : i < length s → 57 < get_or s i 0 → r ≡ number most bound s
-    at_high h k = done (run_stop is_digit s i h (digit_high (get_or s i 0) k))
-
-  module _ (h : i < length s) (lo : 48 ≤ get_or s i 0) (hi : get_or s i 0 ≤ 57) where
+  module _ (h : i < length s) (b : is_digit (get_or s i 0) ≡ true) where
     next_run : run is_digit (drop i s) ≡ suc (run is_digit (drop (i + 1) s))
-    next_run = run_at is_digit s i h (digit_in (get_or s i 0) lo hi)
+    next_run = run_at is_digit s i h b
 
     next_digits : digits (drop i s) ≡ get_or s i 0 ∷ digits (drop (i + 1) s)
     next_digits = ap (λ (n : ℕ). take n (drop i s)) next_run ∙ rw (drop1 s i h)

@@ -4,12 +4,10 @@ use mathlib.Core.Bool.{Bool, true, false, cond}
 use mathlib.Core.List.{List, [], ◌∷◌}
 use Prim.Native.Nat.{ℕ, zero, suc, ◌+◌, ◌≤◌, ◌<◌}
 use native.Mathlib.Omega.{arith}
-use lib.Dec.{eqb}
+use lib.Dec.{eqb, ltb}
 use lib.ListN.{length, drop, get_or, drop_of_length-le}
-use borrow.Author.Tests.{ne_eqb}
-use Rattle.octets.specs.Classes.{bit}
+use borrow.Author.Tests.{ne_eqb, ltb-true, ltb-false}
 use Rattle.octets.specs.Scans.{starts, more, closes, quoted}
-use Rattle.octets.proofs.Classes.{bit_no, bit_yes}
 use Rattle.octets.proofs.Places.{drop1, drop2}
 
 more_le : (n m : ℕ) → n ≤ m → more n ≤ suc m
@@ -57,14 +55,13 @@ more_one zero = refl
 more_one (suc n) = omega arith
 
 module _ (s : List ℕ) where
-  module _ {a : ℕ} (ha : a ≡ bit (starts 34 s)) where
-    pub no_quote : a < 1 → 0 ≡ quoted s
-    unfolding quoted
-    no_quote h = rw (bit_no (starts 34 s) ha h)
+  pub no_quote : starts 34 s ≡ false → 0 ≡ quoted s
+  unfolding quoted
+  no_quote h = rw h
 
-    pub begins : 1 ≤ a → quoted s ≡ plus 1 (closes false (drop 1 s))
-    unfolding quoted
-    begins h = rw (bit_yes (starts 34 s) ha h) (more_one (closes false (drop 1 s)))
+  pub begins : starts 34 s ≡ true → quoted s ≡ plus 1 (closes false (drop 1 s))
+  unfolding quoted
+  begins h = rw h (more_one (closes false (drop 1 s)))
 
   module _ (i : ℕ) (e : quoted s ≡ plus i (closes false (drop i s))) where
     pub ended : length s ≤ i → 0 ≡ quoted s
@@ -81,10 +78,22 @@ module _ (s : List ℕ) where
         unfolding closes
         one m z = rw z (e ∙ rw (drop1 s i h, ne_eqb (get_or s i 0) 34 n, ne_eqb (get_or s i 0) 92 m) (plus_more i (closes false (drop (i + 1) s))))
 
-        pub cut : get_or s i 0 ≡ 92 → length s ≤ i + 1 → 0 ≡ quoted s
+        cut : get_or s i 0 ≡ 92 → length s ≤ i + 1 → 0 ≡ quoted s
         unfolding closes
         cut q l = sym (e ∙ rw (drop1 s i h, q, drop_of_length-le s l))
 
-        pub two : {k : ℕ} → get_or s i 0 ≡ 92 → i + 1 < length s → k ≡ i + 2 → quoted s ≡ plus k (closes false (drop k s))
+        two : {k : ℕ} → get_or s i 0 ≡ 92 → i + 1 < length s → k ≡ i + 2 → quoted s ≡ plus k (closes false (drop k s))
         unfolding closes
         two q l z = rw z (e ∙ rw (drop2 s i l, q) (plus_more2 i (closes false (drop (i + 2) s))))
+
+        -- past the end too, where nothing closes
+        pub slash : {k : ℕ} → get_or s i 0 ≡ 92 → k ≡ i + 2 → quoted s ≡ plus k (closes false (drop k s))
+        unfolding closes
+        slash {k} q z = go (ltb (i + 1) (length s)) refl
+          where
+            go : (t : Bool) → ltb (i + 1) (length s) ≡ t → quoted s ≡ plus k (closes false (drop k s))
+            go true g = two q (ltb-true (i + 1) (length s) g) z
+            go false g =
+                let l : length s ≤ i + 1 = ltb-false (i + 1) (length s) g in
+                let m : length s ≤ k = omega arith in
+                sym (cut q l) ∙ rw (drop_of_length-le s m)

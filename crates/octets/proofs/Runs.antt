@@ -7,7 +7,8 @@ use native.Mathlib.Omega.{arith}
 use lib.ListN.{length, take, drop, get_or, drop_of_length-le}
 use lib.Seq.{take-length}
 use borrow.Author.Tests.{not-true, not-false}
-use Rattle.octets.specs.Scans.{run, all}
+use Rattle.std.specs.List.{list_any}
+use Rattle.octets.specs.Scans.{run, all, any}
 use Rattle.octets.proofs.Places.{drop1}
 
 module _ (p : ℕ → Bool) where
@@ -98,3 +99,13 @@ module _ (p : ℕ → Bool) (s : List ℕ) (n i : ℕ) (e : n ≡ i + run p (dro
 
     pub loop_next : {k : ℕ} → not a ≡ false → k ≡ i + 1 → n ≡ k + run p (drop k s)
     loop_next t z = rw z (omega (arith, run_at p s i h (rw (← q) (not-false a t))))
+
+-- ---- the library's search
+
+pub any_list : (p : ℕ → Bool) (s : List ℕ) → list_any p s ≡ any p s
+unfolding any
+any_list p [] = refl
+any_list p (b ∷ s) = rw (any_list p s)
+
+pub any_from : (p : ℕ → Bool) (s : List ℕ) {r : Bool} → r ≡ list_any p s → r ≡ any p s
+any_from p s e = e ∙ any_list p s

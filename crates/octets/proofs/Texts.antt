@@ -1,12 +1,14 @@
 -- Comparison of texts. `same` and `same_text` are one comparison by a form of the bytes, whose laws are by induction on both texts.
 use mathlib.Core.Path.{◌≡◌, refl, sym, ap, ◌∙◌}
-use mathlib.Core.Bool.{Bool, true, false, cond}
+use mathlib.Core.Bool.{Bool, true, false, cond, ◌&&◌, and-false}
 use mathlib.Core.List.{List, [], ◌∷◌}
 use Prim.Native.Nat.{ℕ, suc, ◌+◌, ◌≤◌, ◌<◌}
 use native.Mathlib.Omega.{arith}
-use lib.Dec.{eqb}
+use lib.Dec.{eqb, leb, ltb}
+use lib.Pointwise.{pointwise}
 use lib.ListN.{length, drop, get_or, drop_of_length-le}
-use borrow.Author.Tests.{eq-eqb, ne_eqb, eqb-true}
+use borrow.Author.Tests.{eq-eqb, ne_eqb, eqb-true, lt-leb, le-leb, ltb-true, ltb-false}
+use Rattle.std.specs.Char.{to_ascii_lowercase}
 use Rattle.octets.specs.Scans.{lower, same, same_text}
 use Rattle.octets.proofs.Places.{drop1}
 
@@ -49,6 +51,28 @@ module _ (f : ℕ → ℕ) where
   agree_length [] (y ∷ ys) e = absurd (never e)
   agree_length (x ∷ xs) [] e = absurd (never e)
   agree_length (x ∷ xs) (y ∷ ys) e = ap suc (agree_length xs ys (agree_first x y xs ys e).1)
+
+both : (t u : Bool) → (t && u) ≡ cond t u false
+both true u = refl
+both false u = refl
+
+-- the library's comparison of slices
+pub same_pointwise : (s t : List ℕ) → pointwise eqb s t ≡ same s t
+unfolding same
+same_pointwise [] [] = refl
+same_pointwise [] (y ∷ ys) = refl
+same_pointwise (x ∷ xs) [] = refl
+same_pointwise (x ∷ xs) (y ∷ ys) = rw (same_pointwise xs ys) (both (eqb x y) (same xs ys))
+
+-- the library's small form of a letter
+pub small_form : (b : ℕ) → to_ascii_lowercase b ≡ lower b
+unfolding lower
+small_form b = go (ltb b 65) refl (ltb b 91) refl
+  where
+    go : (t : Bool) → ltb b 65 ≡ t → (u : Bool) → ltb b 91 ≡ u → to_ascii_lowercase b ≡ lower b
+    go true e u f = rw (e, lt-leb 65 b (ltb-true b 65 e))
+    go false e true f = rw (e, f, le-leb 65 b (ltb-false b 65 e), le-leb b 90 (omega (arith, ltb-true b 91 f)))
+    go false e false f = rw (e, f, lt-leb b 90 (omega (arith, ltb-false b 91 f)), and-false (leb 65 b))
 
 -- a comparison that is `agree f`, by a loop over the places of both texts
 module _ (g : List ℕ → List ℕ → Bool) (f : ℕ → ℕ) (is : (s t : List ℕ) → g s t ≡ agree f s t) (s t : List ℕ) where

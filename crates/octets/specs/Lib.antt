@@ -1,2 +1,3 @@
 pub mod Classes
 pub mod Scans
+pub mod Members

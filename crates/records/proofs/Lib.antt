@@ -12,6 +12,6 @@ pub mod Back
 pub mod Relay
 pub mod Reports
 pub mod Lengths
-pub mod Placing
+pub mod Pushing
 pub mod Promises
 pub mod Examples

@@ -2,15 +2,16 @@
 use mathlib.Core.Path.{◌≡◌, refl, sym, ◌∙◌}
 use mathlib.Core.Bool.{Bool, true, false, ◌&&◌}
 use mathlib.Core.List.{List, [], ◌∷◌, ◌++◌}
-use Prim.Native.Nat.{ℕ, zero, suc, ◌+◌, ◌*◌, ◌≤◌, ◌<◌}
+use Prim.Native.Nat.{ℕ, zero, suc, ◌+◌, ◌-◌, ◌*◌, ◌≤◌, ◌<◌}
 use native.Mathlib.Omega.{arith}
 use lib.Dec.{eqb}
-use lib.ListN.{length, get_or, set}
+use lib.ListN.{length, take, drop, get_or, set}
+use lib.Seq.{drop-cons}
 use Rattle.octets.specs.Classes.{bit}
 use borrow.Author.Tests.{eqb-true, eqb-false, eq-eqb, ne_eqb, lt-ltb}
 use Rattle.records.specs.History.{Outcome}
 use Rattle.records.specs.Report.{how_many, in_group, in_group_for, came, with_reason, table}
-use Rattle.records.specs.Running.{place_of, is_at, counts_of, most_count, one_more, total}
+use Rattle.records.specs.Running.{place_of, is_at, counts_of, most_count, one_more, total, count_in, row_of}
 use Rattle.records.proofs.Counting.{many_next, many_last, many_le, Listed, none_seen, one_seen}
 
 -- ---- tables
@@ -43,6 +44,15 @@ pub table_move : (n i j : ℕ) (f : ℕ → ℕ) → table n (i + j) f ≡ table
 unfolding table
 table_move zero i j f = refl
 table_move (suc n) i j f = let z : suc (i + j) ≡ i + suc j = omega arith in rw (z, table_move n i (suc j) f)
+
+-- n numbers of a list from i on
+table_part : (n i : ℕ) (cs : List ℕ) → i + n ≤ length cs → take n (drop i cs) ≡ table n i (count_in cs)
+unfolding table
+table_part zero i cs l = refl
+table_part (suc n) i cs l = rw (drop-cons cs i 0 (omega arith), table_part n (suc i) cs (omega arith))
+
+pub row_part : (first : ℕ) (cs : List ℕ) → first + 20 ≤ length cs → take (first + 20 - first) (drop first cs) ≡ row_of first cs
+row_part first cs l = let z : first + 20 - first ≡ 20 = omega arith in rw z (table_part 20 first cs l)
 
 -- ---- sums
 

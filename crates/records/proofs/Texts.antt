@@ -2,7 +2,7 @@
 use mathlib.Core.Path.{◌≡◌, refl, sym, ap, ◌∙◌}
 use mathlib.Core.Bool.{Bool, true, false, cond}
 use mathlib.Core.List.{List, [], ◌∷◌, ◌++◌, append_assoc}
-use Prim.Native.Nat.{ℕ, ◌+◌, ◌-◌, ◌≤◌, ◌<◌, min}
+use Prim.Native.Nat.{ℕ, ◌+◌, ◌≤◌, ◌<◌, min}
 use native.Mathlib.Omega.{arith}
 use lib.Dec.{leb, ltb, eqb}
 use lib.ListN.{length, take, get_or, length-append, length-take, get_or-append}
@@ -87,20 +87,20 @@ step_counted st p going some z = go (eqb (refusal_at p) 0) (ltb st.read most_rec
 
 -- ---- all turns
 
--- before a turn, of which so many are left: the pieces so far are whole records, and what is carried is theirs
-pub record Turn (st : State) (left : ℕ) : Type 0 where
+-- after so many turns: the pieces so far are whole records, and what is carried is theirs
+pub record Turn (st : State) (turns : ℕ) : Type 0 where
   pieces : List (List ℕ)
   before : (ps : List (List ℕ)) → Pieces ps → Pieces (pieces ++ ps)
   state : st ≡ stepped_all (after []) pieces
   going : st.end ≡ 0
   few : st.read ≤ most_records
-  turns : st.read + left ≡ 1000001
+  read : st.read ≡ turns
 
-turn_begin : Turn (after []) 1000001
+turn_begin : Turn (after []) 0
 unfolding stepped_all
-turn_begin = record { pieces = []; before = λ ps h. h; state = refl; going = refl; few = omega arith; turns = refl }
+turn_begin = record { pieces = []; before = λ ps h. h; state = refl; going = refl; few = omega arith; read = refl }
 
-pub turn_first : {st : Replay} → state_of st none_held ≡ after [] → Turn (state_of st none_held) 1000001
+pub turn_first : {st : Replay} → state_of st none_held ≡ after [] → Turn (state_of st none_held) 0
 turn_first e = rw e turn_begin
 
 steps_last : (st : State) (ps : List (List ℕ)) (p : List ℕ) → stepped_all st (ps ++ p ∷ []) ≡ stepped (stepped_all st ps) p
@@ -108,7 +108,7 @@ unfolding stepped_all
 steps_last st [] p = refl
 steps_last st (q ∷ ps) p = steps_last (stepped st q) ps p
 
-module _ (numbers : Replay) (calls : List ℕ) (left : ℕ) (t : Turn (state_of numbers calls) left) where
+module _ (numbers : Replay) (calls : List ℕ) (turns : ℕ) (t : Turn (state_of numbers calls) turns) where
   abbrev st : State
   st = state_of numbers calls
 
@@ -126,15 +126,15 @@ module _ (numbers : Replay) (calls : List ℕ) (left : ℕ) (t : Turn (state_of 
   turn_none = let z : stepped st [] ≡ st = rw t.going in rw z at (may_end [] (λ e. absurd (omega (arith, whole_fits [] e))))
 
   -- n bytes were read to the front of a space that was d
-  module _ (space d : List ℕ) (long : length d ≡ 65540) (same_long : length space ≡ length d) (n : ℕ) (some : 1 ≤ n) (i : IsPiece (take n space))
+  module _ (space d : List ℕ) (long : length d ≡ 65540) (same_long : length space ≡ length d) (n : ℕ) (some : n ≡ 0 → ⊥) (i : IsPiece (take n space))
       {p : List ℕ} (hp : p ≡ take n space) {r : Replay} {after_it : List ℕ} (e : state_of r after_it ≡ stepped st p) where
     pub turn_over : (r.end ≡ 0 → ⊥) → Replayed r
     turn_over _ =
         let a : r ≡ numbers_in (stepped st (take n space)) = ap numbers_in (e ∙ ap (stepped st) hp) in
         rw a (may_end (take n space) i)
 
-    pub turn_next : {k : ℕ} → r.end ≡ 0 → 0 < left → k ≡ left - 1 → Turn (state_of r after_it) k
-    turn_next z l y =
+    pub turn_next : {k : ℕ} → r.end ≡ 0 → k ≡ turns + 1 → Turn (state_of r after_it) k
+    turn_next z y =
         let q : List ℕ = take n space in
         let a : state_of r after_it ≡ stepped st q = e ∙ ap (stepped st) hp in
         let ends : (stepped st q).end ≡ 0 = ap (λ (s : State). s.end) (sym a) ∙ z in
@@ -146,9 +146,9 @@ module _ (numbers : Replay) (calls : List ℕ) (left : ℕ) (t : Turn (state_of 
           state = a ∙ one_piece q;
           going = z;
           few = omega (arith, c.not_full);
-          turns = omega (arith, t.turns);
+          read = omega (arith, t.read);
         }
 
   -- there are as many turns as a text can have records, and one more
-  pub turn_last : left ≤ 0 → Replayed numbers
-  turn_last l = absurd (omega (arith, t.turns, t.few))
+  pub turn_last : 1000001 ≤ turns → Replayed numbers
+  turn_last l = absurd (omega (arith, t.read, t.few))

@@ -2,20 +2,28 @@
 #![tactic(auto)]
 
 ghost use Rattle.std.specs.Prelude.{◌≡◌, [], ◌+◌, ◌<◌, get_or, set};
-ghost use Rattle.octets.specs.Classes.{within};
 ghost use Rattle.emit.specs.Put.{Wrote};
+ghost use Rattle.lines.specs.Finds.{field_named};
+ghost use Rattle.octets.specs.Classes.{text, within};
 ghost use Rattle.records.specs.Records.{recording};
 ghost use Rattle.sip.specs.Calls.{none_held};
 ghost use Rattle.records.specs.History.{outcome_of, calls_left};
 ghost use Rattle.records.specs.Report.{printed};
 ghost use Rattle.records.specs.Running.{state_of, numbers_in, place_of, after, finished, one_more, taken, stepped, counts_report};
 ghost use Rattle.records.specs.Pieces.{wanted};
+ghost use Rattle.records.specs.Kinds.{group_number, group_by, end_number};
 
+use group::Group;
+use record::End;
+use report::Report;
+
+mod group;
 mod record;
 mod report;
 
-// What is carried from record to record: 20 counts for each group (relay callers, others, unread), by the reason, 0 for accepted; how many
-// records were read; and how the text ended, 0 while it goes on.
+// What is carried from record to record: 20 counts for each group, by the reason, 0 for accepted; how many records were read; and how the text
+// ended, 0 while it goes on. Plain numbers, as C keeps them and hands them back, `end` with any value (mishkolar_take_record, mishkolar_report); the
+// table of calls, which C lends, stays beside it.
 #[derive(Drop)]
 pub struct Replay {
     pub counts: [u32; 60],
@@ -27,34 +35,41 @@ pub struct Replay {
 pub fn start() -> Replay
     ensures { state_of result none_held ≡ after [] }
 {
-    let counts = [0u32; 60];
     Replay {
-        counts,
+        counts: [0; 60],
         read: 0,
         end: 0,
     }
 }
 
 // The text ends so.
-fn end_with(st: Replay, end: u64) -> Replay
-    ensures { (result.counts ≡ st.counts) × (result.read ≡ st.read) × (result.end ≡ end) }
+fn end_with(st: Replay, end: End) -> Replay
+    ensures { (result.counts ≡ st.counts) × (result.read ≡ st.read) × (result.end ≡ end_number end) }
 {
-    let counts = st.counts;
     Replay {
-        counts,
-        read: st.read,
-        end,
+        end: end.number(),
+        ..st
     }
 }
 
-// Reasons 1 to 5.
+// Reasons 1 to 5: the message was not read.
 fn is_unread(reason: usize) -> bool
     ensures { result ≡ within 1 5 reason }
 {
-    if reason < 1 {
-        return false;
+    (1..=5).contains(&reason)
+}
+
+// The group of a message, by its reason.
+fn group_of(message: &[u8], reason: usize) -> Group
+    ensures { group_number result ≡ group_by reason (field_named message.now (text "X-Relay-Mode")) }
+{
+    if is_unread(reason) {
+        return Group::Unread;
     }
-    reason <= 5
+    if lines::has_field(message, b"X-Relay-Mode") {
+        return Group::Relay;
+    }
+    Group::Other
 }
 
 // Which count a message adds to, and the table of calls after it. With room enough nothing that is judged good is refused for room, so that
@@ -64,37 +79,18 @@ fn place_of(message: &[u8], side: u64, calls: &mut [u8; 6208]) -> usize
         × (calls.new ≡ calls_left message.now side calls.old) }
 {
     let reason = gateway::reason_with_room(message, side, calls) as usize;
-    if is_unread(reason) {
-        return 40 + reason;
-    }
-    if lines::has_field(message, b"X-Relay-Mode") {
-        return reason;
-    }
-    20 + reason
+    group_of(message, reason).first() + reason
 }
 
-// A count that is full stays.
-fn one_more(n: u32) -> u32
-    ensures { result ≡ one_more n }
-{
-    if n < 4294967295 {
-        return n + 1;
-    }
-    n
-}
-
-// One record more, counted at a place.
-fn count(st: Replay, at: usize) -> Replay
+// One record more, counted at a place. A count that is full stays.
+#[tactic(auto, unfolding(crate::specs::Running::one_more))]
+fn count(mut st: Replay, at: usize) -> Replay
     requires { (at < 60) × (st.read < 1000000) }
     ensures { (result.counts ≡ set st.counts at (one_more (get_or st.counts at 0))) × (result.read ≡ st.read + 1) × (result.end ≡ st.end) }
 {
-    let mut counts = st.counts;
-    counts[at] = one_more(counts[at]);
-    Replay {
-        counts,
-        read: st.read + 1,
-        end: st.end,
-    }
+    st.counts[at] = st.counts[at].saturating_add(1);
+    st.read += 1;
+    st
 }
 
 // Screens the message of a whole record with the table of calls that the records before it left, and counts it. Refusal 33 where a million
@@ -106,7 +102,7 @@ pub fn take_record(st: Replay, calls: &mut [u8; 6208], side: u64, message: &[u8]
         return st;
     }
     if 1000000 <= st.read {
-        return end_with(st, 33);
+        return end_with(st, End::TooMany);
     }
     let at = place_of(message, side, calls);
     count(st, at)
@@ -133,16 +129,13 @@ pub fn step(st: Replay, calls: &mut [u8; 6208], s: &[u8]) -> Replay
     if st.end != 0 {
         return st;
     }
-    if s.len() < 1 {
+    if s.is_empty() {
         return st;
     }
-    let e = record::refusal_at(s);
-    if e != 0 {
-        return end_with(st, e);
+    match record::read(s) {
+        Ok(r) => take_record(st, calls, r.side, r.message),
+        Err(end) => end_with(st, end),
     }
-    let side = record::side_of(s);
-    let len = record::message_len(s);
-    take_record(st, calls, side, octets::part(s, 5, len))
 }
 
 // Replays a text whole, with none held before it.
@@ -151,15 +144,13 @@ pub fn replay_text(text: &[u8]) -> Replay
 {
     let mut calls = [0u8; 6208];
     let mut st = start();
-    let mut at = 0;
-    while at < text.len() {
-        let left = octets::rest(text, at);
+    let mut left = text;
+    while !left.is_empty() {
         st = step(st, &mut calls, left);
         if st.end != 0 {
             return st;
         }
-        let size = record::len(left);
-        at += size;
+        left = octets::rest(left, record::len(left));
     }
     st
 }
@@ -169,8 +160,7 @@ pub fn replay_text(text: &[u8]) -> Replay
 pub fn put_report(out: &mut [u8], st: Replay) -> usize
     ensures { Wrote out.old 0 (printed (counts_report st.counts st.read st.end)) result out.new }
 {
-    let mut space = [0u8; 4096];
-    let counts = st.counts;
-    let len = report::put_all(&mut space, &counts, st.read, st.end);
-    emit::put(out, 0, octets::first(&space, len))
+    let mut text = Report::new();
+    report::push_all(&mut text, &st.counts, st.read, st.end);
+    text.put(out, 0)
 }

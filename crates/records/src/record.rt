@@ -1,6 +1,34 @@
-// The head of a record: mark, side and length.
-ghost use Rattle.std.specs.Prelude.{◌≡◌, ◌<◌, get_or};
+// The record at the front of a text: mark, side, length and message.
+ghost use Rattle.std.specs.Prelude.{◌≡◌, ◌<◌, IfOk};
 ghost use Rattle.records.specs.Records.{marked, message_size, record_size, record_at, refusal_at};
+ghost use Rattle.records.specs.Kinds.{end_number, refusal_in};
+
+// How a text ends where it does not just end.
+#[derive(Clone, Copy)]
+pub(crate) enum End {
+    BadMark,
+    CutShort,
+    TooMany,
+}
+
+impl End {
+    // As the report has it.
+    pub(crate) fn number(self) -> u64
+        ensures { result ≡ end_number self }
+    {
+        match self {
+            End::BadMark => 31,
+            End::CutShort => 32,
+            End::TooMany => 33,
+        }
+    }
+}
+
+#[derive(Clone, Copy)]
+pub(crate) struct Record<'a> {
+    pub side: u64,
+    pub message: &'a [u8],
+}
 
 // The mark 53 4E stands at the front, as far as the text goes.
 pub(crate) fn is_marked(s: &[u8]) -> bool
@@ -9,35 +37,13 @@ pub(crate) fn is_marked(s: &[u8]) -> bool
     octets::same(octets::first(b"SN", s.len()), octets::first(s, 2))
 }
 
-fn wide(b: u8) -> usize
-    ensures { (result ≡ b) × (result < 256) }
-{
-    b as usize
-}
-
-// The byte at a place, 0 past the end.
-fn byte_at(s: &[u8], i: usize) -> usize
-    ensures { (result ≡ get_or s.now i 0) × (result < 256) }
-{
-    if s.len() <= i {
-        return 0;
-    }
-    wide(s[i])
-}
-
-pub(crate) fn side_of(s: &[u8]) -> u64
-    ensures { result ≡ (record_at s.now).side }
-{
-    byte_at(s, 2) as u64
-}
-
-// How many bytes the message has: the high byte of its length stands first.
+// How many bytes the message has: the high byte of its length stands first. A byte past the end is 0.
 pub(crate) fn message_len(s: &[u8]) -> usize
     ensures { (result ≡ message_size s.now) × (result < 65536) }
 {
-    let high = byte_at(s, 3);
-    let low = byte_at(s, 4);
-    256 * high + low
+    let high = s.get(3).copied().unwrap_or(0);
+    let low = s.get(4).copied().unwrap_or(0);
+    usize::from(u16::from_be_bytes([high, low]))
 }
 
 // How many bytes the record has.
@@ -47,16 +53,19 @@ pub(crate) fn len(s: &[u8]) -> usize
     5 + message_len(s)
 }
 
-// Refusal 31 or 32 of a text that is not empty; 0 where a whole record stands at its front.
-pub(crate) fn refusal_at(s: &[u8]) -> u64
-    ensures { result ≡ refusal_at s.now }
+// The record at the front of a text that is not empty.
+pub(crate) fn read(s: &[u8]) -> Result<Record<'_>, End>
+    ensures refused { refusal_in result ≡ refusal_at s.now }
+    ensures whole { IfOk result (λ r. (r.side ≡ (record_at s.now).side) × (r.message.now ≡ (record_at s.now).message)) }
 {
     if !is_marked(s) {
-        return 31;
+        return Err(End::BadMark);
     }
-    let size = len(s);
-    if s.len() < size {
-        return 32;
+    if s.len() < len(s) {
+        return Err(End::CutShort);
     }
-    0
+    Ok(Record {
+        side: u64::from(s[2]),
+        message: octets::part(s, 5, message_len(s)),
+    })
 }

@@ -36,24 +36,22 @@ fn read_record<R: Read>(input: &mut R, space: &mut [u8]) -> usize
     n + got
 }
 
-// Reads the records one after the other into one space. There are a million at most, and one more to be refused.
+// Reads the records one after the other into one space, since memory is fixed: n tells what is new of it. There are a million at most, and one more to be refused.
 fn replay<R: Read>(input: &mut R) -> Replay
     ensures { Replayed result }
 {
     let mut space = [0u8; 65540];
     let mut calls = [0u8; 6208];
     let mut st = records::start();
-    let mut left: u64 = 1000001;
-    while 0 < left {
+    for _ in 0..1000001u64 {
         let n = read_record(input, &mut space);
-        if n < 1 {
+        if n == 0 {
             return st;
         }
         st = records::step(st, &mut calls, octets::first(&space, n));
         if st.end != 0 {
             return st;
         }
-        left -= 1;
     }
     st
 }
@@ -68,6 +66,7 @@ fn report<R: Read>(input: &mut R, out: &mut [u8]) -> usize
 }
 
 fn main(rt: HostRuntime) -> io::Result<()> {
+    // Fixed memory.
     let mut out = [0u8; 4096];
     let n = report(&mut rt.stdin(), &mut out);
     rt.stdout().write_all(octets::first(&out, n))

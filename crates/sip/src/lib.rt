@@ -1,4 +1,7 @@
 // The vocabulary of documents 01 and 02: the types that their definitions (specs/) and the code of the other crates share.
+// Where nothing stands, the definitions (`uri`, `address`, `param`, `params`, `party`, `identity`, `caller_at`, `calling_part` of specs/) say so by a
+// size, a length or a field of 0, and the theorems are stated over them: these types keep that form, and `PartyAt` and `CallingAt` stand for the
+// definitions alone. The functions that read or find such a thing answer an Option, and their contracts say which 0 its None is.
 #![tactic(auto)]
 
 // The columns of the profile. Six are of requests. Three are of responses: to an INVITE with a status from 200 to 299, to a CANCEL, and all

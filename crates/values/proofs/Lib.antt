@@ -4,3 +4,5 @@ pub mod Lists
 pub mod Params
 pub mod Addresses
 pub mod Schemes
+pub mod Firsts
+pub mod Uris

@@ -12,8 +12,7 @@ use Rattle.octets.specs.Classes.{is_token}
 use Rattle.octets.specs.Scans.{run}
 use Rattle.sip.specs.Values.{is_empty, sign, with_token, tokens, first_place}
 use Rattle.sip.proofs.Grammar.Tokens.{tokens_passed}
-use Rattle.values.specs.declared.ListAt.{ListAt}
-use Rattle.values.specs.Answers.{list_at}
+use Rattle.values.specs.Answers.{ListAt, no_list, list_at}
 use Rattle.values.proofs.Within.{is_zero, not_zero}
 
 pub no_bytes : (s : List ℕ) → length s < 1 → is_empty s ≡ true
@@ -48,9 +47,6 @@ module _ (sep : ℕ) where
       rw (not_zero (run is_token (b ∷ s)) h, pass b s (run is_token (b ∷ s) + sign sep (drop (run is_token (b ∷ s)) (b ∷ s))) (omega arith))
 
 -- ---- the answer
-
-abbrev pub no_list : ListAt
-no_list = record { good = false; count = 0; first = 0 }
 
 -- the answer after n tokens, the first that passes at place f (0: none passed)
 unfoldable pub answer : (List ℕ → Bool) → ℕ → ℕ → Option (List (List ℕ)) → ListAt

@@ -1,15 +1,57 @@
 -- What the value readers answer, by document 01's definitions.
-use Rattle.std.specs.Prelude.{Bool, cond, List, [], ◌∷◌, ℕ, ◌+◌, length, drop}
+use Rattle.std.specs.Prelude.{◌≡◌, Bool, true, false, cond, List, [], ◌∷◌, ℕ, ◌+◌, ◌≤◌, length, drop, Option, Some, None, unwrap_or, IfSome}
+use Rattle.std.specs.Fn.{FnReturnsAt}
+use denote.Param.Members.{Shared}
+use denote.Ref.{Bor}
 use Rattle.octets.specs.Classes.{is_user}
 use Rattle.octets.specs.Scans.{starts, run_escaped, decimal, no_number}
 use Rattle.octets.specs.declared.NumberAt.{NumberAt}
+use Rattle.sip.specs.declared.UriAt.{UriAt}
+use Rattle.sip.specs.declared.AddressAt.{AddressAt}
+use Rattle.sip.specs.declared.ParamAt.{ParamAt}
+use Rattle.sip.specs.declared.PartyAt.{PartyAt}
+use Rattle.sip.specs.declared.Span.{Span}
 use Rattle.sip.specs.declared.IdentityAt.{IdentityAt}
-use Rattle.sip.specs.Values.{is_number, uri, person, is_called, identities, allowed, is_asserted}
+use Rattle.sip.specs.Values.{is_number, uri, person, no_party, is_called, identities, allowed, is_asserted}
 use Rattle.sip.specs.Values.{tokens, list_or, is_list, first_place, is_restricting, is_lacking}
 use Rattle.sip.specs.Refusals.{other_scheme, is_uri}
 use Rattle.values.specs.declared.RequestUri.{RequestUri}
-use Rattle.values.specs.declared.ListAt.{ListAt}
+use Rattle.values.specs.declared.Tokens.{Tokens}
 use Rattle.values.specs.declared.AssertedAt.{AssertedAt}
+
+-- ---- what a reader says of something at the front of a text of n bytes, or of a whole text
+
+-- a size that is told: of what stands at the front of s, n bytes; none where n is 0
+abbrev pub IsSize : Option ℕ → ℕ → List ℕ → Type 0
+IsSize told n s = (unwrap_or told 0 ≡ n) × IfSome told (λ k. (1 ≤ k) × (k ≤ length s))
+
+-- what is told of a list of tokens: it has no more of them than bytes, and their places count from 1
+abbrev pub TokensFit : List ℕ → Tokens → Type 0
+TokensFit s t = (t.count ≤ length s) × IfSome t.first (λ n. 1 ≤ n)
+
+-- the URI stands in n bytes, its tail at its end, and its user behind the four bytes of the scheme and before the tail
+abbrev pub UriFits : UriAt → ℕ → Type 0
+UriFits u n = (1 ≤ u.size) × (u.size ≤ n) × (u.tail ≤ u.size) × (u.user + 4 ≤ u.tail)
+
+-- the address stands in n bytes, and its URI in it; the user, or a tel URI's number, stands in that behind four bytes
+abbrev pub AddressFits : AddressAt → ℕ → Type 0
+AddressFits a n = (1 ≤ a.size) × (a.size ≤ n) × (a.at + a.uri.size ≤ a.size) × (a.uri.user + 4 ≤ a.uri.size)
+
+-- the parameter stands in n bytes, and its value in it
+abbrev pub ParamFits : ParamAt → ℕ → Type 0
+ParamFits p n = (1 ≤ p.size) × (p.size ≤ n) × (p.value + p.len ≤ p.size)
+
+-- the party that is told
+abbrev pub party_of : Option Span → PartyAt
+party_of None = no_party
+party_of (Some t) = record { good = true; tag = t.start; len = t.len }
+
+-- ---- the answers
+
+-- the number that is told of a value of so many bytes
+abbrev pub number_of : ℕ → Option ℕ → NumberAt
+number_of size None = no_number
+number_of size (Some n) = record { size = size; value = n }
 
 -- a value that is a number of 1 to `most` digits, at most `bound`; size 0 where it is none
 unfoldable pub whole_number : ℕ → ℕ → List ℕ → NumberAt
@@ -46,6 +88,24 @@ asserted_of (i ∷ j ∷ k ∷ others) = no_asserted
 -- what a P-Asserted-Identity asserts; `no_asserted` where it is malformed
 unfoldable pub asserted_at : List ℕ → AssertedAt
 asserted_at v = cond (is_asserted v) (asserted_of (identities v)) no_asserted
+
+-- a list of tokens: whether it is one, how many tokens it has, and the place, from 1, of the first that passes a test (0: none does)
+pub record ListAt : Type 0 where
+  pub good : Bool
+  pub count : ℕ
+  pub first : ℕ
+
+abbrev pub no_list : ListAt
+no_list = record { good = false; count = 0; first = 0 }
+
+-- the list that is told
+abbrev pub list_of : Option Tokens → ListAt
+list_of None = no_list
+list_of (Some t) = record { good = true; count = t.count; first = unwrap_or t.first 0 }
+
+-- the test that is handed in answers at each text what p says of it
+abbrev pub Tests : {F : Type 0} → Shared F (Bor (List ℕ) × Unit {0}) Bool → F → (List ℕ → Bool) → Type 0
+Tests g test p = (t : List ℕ) (answer : Bool) → FnReturnsAt g test t answer → answer ≡ p t
 
 abbrev pub list_at : ℕ → (List ℕ → Bool) → List ℕ → ListAt
 list_at sep p v = let ts = tokens sep 0 v in record { good = is_list ts; count = length (list_or ts); first = first_place p 0 (list_or ts) }

@@ -1,221 +1,161 @@
 // Addresses, and the values that hold them: From, To and P-Asserted-Identity.
-ghost use Rattle.std.specs.Prelude.{◌≡◌, ◌+◌, ◌*◌, ◌-◌, ◌≤◌, ◌<◌, length};
-ghost use Rattle.octets.specs.Classes.{class_table};
-ghost use Rattle.sip.specs.Values.{display, bracketed, address, party, identity, after};
-ghost use Rattle.values.specs.Answers.{alone, paired, asserted_at};
+ghost use Rattle.std.specs.Prelude.{◌≡◌, ◌+◌, ◌^◌, ◌≤◌, ◌<◌, length, unwrap_or, IfSome};
+ghost use Rattle.sip.specs.Values.{display, bracketed, address, party, identity, after, no_address, no_identity};
+ghost use Rattle.values.specs.Answers.{alone, paired, asserted_at, no_asserted, party_of, AddressFits};
 
 use super::AssertedAt;
 use super::param::params;
-use super::person::{global, person_size};
-use super::scan::{blanks, names, past, sign, tokens};
-use super::uri::{NO_URI, uri};
-use sip::{AddressAt, IdentityAt, PartyAt, UriAt};
+use super::person::{is_global, person_size};
+use super::scan::{blanks, past, sign};
+use super::uri::uri_at;
+use octets::Class;
+use sip::{AddressAt, IdentityAt, Span, UriAt};
 
-const NO_ADDRESS: AddressAt = AddressAt {
-    size: 0,
-    at: 0,
-    uri: NO_URI,
-};
-
-const NO_PARTY: PartyAt = PartyAt {
-    good: false,
-    tag: 0,
-    len: 0,
-};
-
-const NO_IDENTITY: IdentityAt = IdentityAt {
-    size: 0,
-    tel: false,
-    start: 0,
-    len: 0,
-};
-
-const NO_ASSERTED: AssertedAt = AssertedAt {
-    schemes: 0,
-    start: 0,
-    len: 0,
-};
-
-// A display name with the blanks after it. 0 where there is none.
-fn display(table: &[u8; 256], s: &[u8]) -> usize
-    requires { table.now ≡ class_table }
+// How many bytes of display name and of blanks after it stand there. A count that is added on, to which no name adds nothing.
+#[tactic(auto, unfolding(sip::specs::Values::display), using(crate::proofs::Uris::no_name))]
+fn display(s: &[u8]) -> usize
     ensures { (result ≡ display s.now) × (result ≤ length s.now) }
 {
     // Most addresses have none.
-    if 0 < octets::ahead(s, b'<') {
+    if octets::starts_with(s, b'<') {
         return 0;
     }
-    let quote = octets::quoted(s);
-    if 0 < quote {
+    if let Some(quote) = octets::quoted(s) {
         return quote + blanks(past(s, quote));
     }
-    if tokens(table, s) < 1 {
+    if Class::Token.run(s) < 1 {
         return 0;
     }
-    names(table, s)
+    Class::Name.run(s)
 }
 
 // A URI and `>`, after the display name and `<`. Both are parts of one slice, so that no sum wraps.
-fn bracketed(table: &[u8; 256], name: usize, s: &[u8]) -> AddressAt
-    requires { (table.now ≡ class_table) × (name + length s.now < 9223372036854775808) }
-    ensures { (result ≡ bracketed name s.now) × (result.size ≤ name + length s.now + 1) × (result.at + result.uri.size ≤ result.size) × (result.uri.user + 4 ≤ result.uri.size + 4 * (1 - result.size)) }
+#[tactic(auto, unfolding(sip::specs::Values::bracketed), using(crate::proofs::Firsts::has_next))]
+fn bracketed(name: usize, s: &[u8]) -> Option<AddressAt>
+    requires { name + length s.now < 2 ^ 63 }
+    ensures { (unwrap_or result no_address ≡ bracketed name s.now) × IfSome result (λ a. AddressFits a (name + length s.now + 1)) }
 {
-    let u = uri(table, s);
-    let inner = u.size;
-    if inner < 1 {
-        return NO_ADDRESS;
+    let uri = uri_at(s)?;
+    if !octets::starts_with(past(s, uri.size), b'>') {
+        return None;
     }
-    if octets::ahead(past(s, inner), b'>') < 1 {
-        return NO_ADDRESS;
-    }
-    let at = name + 1;
-    let size = name + inner + 2;
-    AddressAt { size, at, uri: u }
+    Some(AddressAt {
+        size: name + uri.size + 2,
+        at: name + 1,
+        uri,
+    })
 }
 
-// Either form of address. The last bound says that the user, or a tel URI's number, stands in the URI behind four bytes.
-pub(crate) fn address(table: &[u8; 256], s: &[u8]) -> AddressAt
-    requires { table.now ≡ class_table }
-    ensures { (result ≡ address s.now) × (result.size ≤ length s.now) × (result.at + result.uri.size ≤ result.size) × (result.uri.user + 4 ≤ result.uri.size + 4 * (1 - result.size)) }
+// Either form of address.
+#[tactic(auto, unfolding(sip::specs::Values::address), using(crate::proofs::Firsts::has_next))]
+fn address(s: &[u8]) -> Option<AddressAt>
+    ensures { (unwrap_or result no_address ≡ address s.now) × IfSome result (λ a. AddressFits a (length s.now)) }
 {
-    let name = display(table, s);
-    if 0 < octets::ahead(past(s, name), b'<') {
+    let name = display(s);
+    if octets::starts_with(past(s, name), b'<') {
         let next = name + 1;
-        return bracketed(table, name, past(s, next));
+        return bracketed(name, past(s, next));
     }
-    let u = uri(table, s);
-    if u.size < 1 {
-        return NO_ADDRESS;
-    }
+    let uri = uri_at(s)?;
     // A bare URI ends before its tail: those bytes are the field's parameters.
-    let size = u.tail;
-    AddressAt {
-        size,
+    Some(AddressAt {
+        size: uri.tail,
         at: 0,
         uri: UriAt {
-            size,
-            tel: u.tel,
-            user: u.user,
-            tail: size,
+            size: uri.tail,
+            ..uri
         },
-    }
+    })
 }
 
-// From or To: nothing may stand after the address and the parameters.
-pub(crate) fn party(table: &[u8; 256], v: &[u8]) -> PartyAt
-    requires { table.now ≡ class_table }
-    ensures { (result ≡ party v.now) × (result.tag + result.len ≤ length v.now) }
+// From or To: an address and parameters, and nothing after them; and where the tag stands. An empty span, and no `None`, where there is no
+// tag: the definition `party` tells also then where the parameters begin.
+#[tactic(auto, unfolding(sip::specs::Values::party))]
+pub fn party(v: &[u8]) -> Option<Span>
+    ensures { (party_of result ≡ party v.now) × IfSome result (λ t. t.start + t.len ≤ length v.now) }
 {
-    let a = address(table, v);
-    if a.size < 1 {
-        return NO_PARTY;
+    let a = address(v)?;
+    let p = params(past(v, a.size));
+    if a.size + p.size != v.len() {
+        return None;
     }
-    let p = params(table, past(v, a.size));
-    let end = a.size + p.size;
-    if end != v.len() {
-        return NO_PARTY;
-    }
-    let tag = a.size + p.tag;
-    PartyAt {
-        good: true,
-        tag,
+    Some(Span {
+        start: a.size + p.tag,
         len: p.len,
-    }
+    })
 }
 
 // An identity at the front of a text: an address whose user, or tel URI, is a number. The number stands behind the four bytes of the scheme.
-fn identity(table: &[u8; 256], s: &[u8]) -> IdentityAt
-    requires { table.now ≡ class_table }
-    ensures { (result ≡ identity s.now) × (result.size ≤ length s.now) × (result.start + result.len ≤ result.size) }
+#[tactic(auto, unfolding(sip::specs::Values::identity), using(crate::proofs::Uris::person_at))]
+fn identity(s: &[u8]) -> Option<IdentityAt>
+    ensures { (unwrap_or result no_identity ≡ identity s.now) × IfSome result (λ i. (1 ≤ i.size) × (i.size ≤ length s.now) × (i.start + i.len ≤ i.size)) }
 {
-    let a = address(table, s);
-    let size = a.size;
-    if size < 1 {
-        return NO_IDENTITY;
-    }
+    let a = address(s)?;
     let start = a.at + 4;
-    let u = a.uri;
-    let len = person_size(u);
-    if !global(table, octets::part(s, start, len)) {
-        return NO_IDENTITY;
+    let len = person_size(a.uri);
+    if !is_global(octets::part(s, start, len)) {
+        return None;
     }
-    IdentityAt {
-        size,
-        tel: u.tel,
+    Some(IdentityAt {
+        size: a.size,
+        tel: a.uri.tel,
         start,
         len,
-    }
+    })
 }
 
 // An identity that is alone in its value.
 fn alone(i: IdentityAt) -> AssertedAt
-    ensures { (result ≡ alone i) × (result.start ≡ i.start) × (result.len ≡ i.len) }
+    ensures { (result ≡ alone i) × (1 ≤ result.schemes) × (result.start ≡ i.start) × (result.len ≡ i.len) }
 {
-    if i.tel {
-        return AssertedAt {
-            schemes: 2,
-            start: i.start,
-            len: i.len,
-        };
-    }
     AssertedAt {
-        schemes: 1,
+        schemes: if i.tel { 2 } else { 1 },
         start: i.start,
         len: i.len,
     }
 }
 
 // Two identities that fill a value, the second after n bytes of it: one has to be a sip URI and one a tel URI.
-fn pair(i: IdentityAt, n: usize, j: IdentityAt) -> AssertedAt
-    requires { (i.start + i.len ≤ n) × (n + j.start + j.len ≤ 18446744073709551615) }
-    ensures { (result ≡ paired i (after n j)) × (result.start + result.len ≤ n + j.start + j.len) }
+#[tactic(auto, unfolding(crate::specs::Answers::paired, sip::specs::Values::allowed))]
+fn pair(i: IdentityAt, n: usize, j: IdentityAt) -> Option<AssertedAt>
+    requires { (i.start + i.len ≤ n) × (n + j.start + j.len < 2 ^ 64) }
+    ensures { (unwrap_or result no_asserted ≡ paired i (after n j)) × IfSome result (λ a. (1 ≤ a.schemes) × (a.start + a.len ≤ n + j.start + j.len)) }
 {
     if i.tel {
         if j.tel {
-            return NO_ASSERTED;
+            return None;
         }
         let start = n + j.start;
-        return AssertedAt {
+        return Some(AssertedAt {
             schemes: 3,
             start,
             len: j.len,
-        };
+        });
     }
     if !j.tel {
-        return NO_ASSERTED;
+        return None;
     }
-    AssertedAt {
+    Some(AssertedAt {
         schemes: 3,
         start: i.start,
         len: i.len,
-    }
+    })
 }
 
 // P-Asserted-Identity: an identity, or two that a comma parts, and nothing after them.
-pub(crate) fn asserted(table: &[u8; 256], v: &[u8]) -> AssertedAt
-    requires { table.now ≡ class_table }
-    ensures { (result ≡ asserted_at v.now) × (result.start + result.len ≤ length v.now) }
+#[tactic(auto, unfolding(sip::specs::Values::identities), using(crate::proofs::Addresses::no_identities, crate::proofs::Addresses::one_identity, crate::proofs::Addresses::two_identities))]
+pub fn asserted(v: &[u8]) -> Option<AssertedAt>
+    ensures { (unwrap_or result no_asserted ≡ asserted_at v.now) × IfSome result (λ a. (1 ≤ a.schemes) × (a.start + a.len ≤ length v.now)) }
 {
-    let i = identity(table, v);
-    let size = i.size;
-    if size < 1 {
-        return NO_ASSERTED;
+    let i = identity(v)?;
+    if i.size == v.len() {
+        return Some(alone(i));
     }
-    if size == v.len() {
-        return alone(i);
-    }
-    let comma = sign(b',', past(v, size));
-    if comma < 1 {
-        return NO_ASSERTED;
-    }
-    let next = size + comma;
-    let j = identity(table, past(v, next));
-    if j.size < 1 {
-        return NO_ASSERTED;
-    }
-    let last = next + j.size;
-    if last != v.len() {
-        return NO_ASSERTED;
+    let comma = sign(b',', past(v, i.size))?;
+    let next = i.size + comma;
+    let j = identity(past(v, next))?;
+    if next + j.size != v.len() {
+        return None;
     }
     pair(i, next, j)
 }

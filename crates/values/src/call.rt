@@ -1,64 +1,61 @@
-// CSeq and Call-ID.
-ghost use Rattle.std.specs.Prelude.{◌≡◌, not, ◌≤◌, length};
-ghost use Rattle.octets.specs.Classes.{bit, is_visible};
+// Max-Forwards, Content-Length, CSeq and Call-ID.
+ghost use Rattle.std.specs.Prelude.{◌≡◌, ◌≤◌, length, IfSome, fold, ◌&&◌, true};
+ghost use Rattle.octets.specs.Classes.{is_visible};
 ghost use Rattle.octets.specs.Scans.{all};
 ghost use Rattle.sip.specs.Values.{is_cseq, is_call_id};
+ghost use Rattle.values.specs.Answers.{number_of, whole_number};
 
 use super::scan::{blanks, past};
 
+// Max-Forwards and Content-Length: a number of 1 to `most` digits, at most `bound`.
+#[tactic(auto, unfolding(crate::specs::Answers::whole_number, sip::specs::Values::is_number, octets::specs::Scans::number))]
+pub fn whole_number(v: &[u8], most: usize, bound: u32) -> Option<u64>
+    ensures { (number_of (length v.now) result ≡ whole_number most bound v.now) × IfSome result (λ n. (n ≤ bound) × (1 ≤ length v.now)) }
+{
+    let number = octets::number(v, most, bound)?;
+    if number.size != v.len() {
+        return None;
+    }
+    Some(number.value)
+}
+
 // A number, blanks, and the method of the start line.
-pub(crate) fn cseq(method: &[u8], v: &[u8]) -> bool
+#[tactic(auto, unfolding(sip::specs::Values::is_cseq))]
+pub fn is_cseq(method: &[u8], v: &[u8]) -> bool
     ensures { result ≡ is_cseq method.now v.now }
 {
-    let number = octets::number(v, 10, 2147483647);
-    let size = number.size;
-    if size < 1 {
+    let Some(number) = octets::number(v, 10, 2147483647) else {
         return false;
-    }
-    let gap = blanks(past(v, size));
+    };
+    let gap = blanks(past(v, number.size));
     if gap < 1 {
         return false;
     }
-    let next = size + gap;
+    let next = number.size + gap;
     octets::same(method, past(v, next))
 }
 
-// 1 where the byte is not visible, else 0.
-fn unseen(b: u8) -> u8
-    ensures { (result ≡ bit (not (is_visible b))) × (result ≤ 1) }
+#[tactic(auto, unfolding(octets::specs::Classes::is_visible))]
+fn is_visible(b: u8) -> bool
+    ensures { result ≡ is_visible b }
 {
-    if b < 33 {
-        return 1;
-    }
-    if 126 < b {
-        return 1;
-    }
-    0
+    b.is_ascii_graphic()
 }
 
-// Counts to the end of the value, so that many bytes are looked at at once. At most 128 fit the count.
+// Looks at every byte, also past one that is not visible, so that many are looked at at once.
 fn all_visible(v: &[u8]) -> bool
-    requires { length v.now ≤ 128 }
-    ensures { result ≡ all is_visible v.now }
+    ensures { result ≡ fold (λ seen b. seen && is_visible b) true v.now }
 {
-    let mut count: u8 = 0;
-    let mut i = 0;
-    while i < v.len() {
-        count += unseen(v[i]);
-        i += 1;
-    }
-    count == 0
+    v.iter().fold(true, |seen, b| seen & is_visible(*b))
 }
 
 // 1 to 128 visible bytes.
-pub(crate) fn call_id(v: &[u8]) -> bool
+#[tactic(auto, unfolding(sip::specs::Values::is_call_id), using(crate::proofs::Runs::all_seen))]
+pub fn is_call_id(v: &[u8]) -> bool
     ensures { result ≡ is_call_id v.now }
 {
-    if v.len() < 1 {
-        return false;
+    match v.len() {
+        1..=128 => all_visible(v),
+        _ => false,
     }
-    if 128 < v.len() {
-        return false;
-    }
-    all_visible(v)
 }

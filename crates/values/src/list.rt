@@ -1,95 +1,64 @@
 // Lists of tokens: Privacy and Require.
-ghost use Rattle.std.specs.Prelude.{◌≡◌, cond, List, ℕ, ◌+◌, ◌≤◌, eqb};
-ghost use Rattle.octets.specs.Classes.{class_table};
+ghost use Rattle.std.specs.Prelude.{◌≡◌, Bool, List, ℕ, IfSome};
 ghost use Rattle.sip.specs.Values.{is_restricting, is_lacking};
-ghost use Rattle.values.specs.Answers.{list_at};
+ghost use Rattle.values.specs.Answers.{Tests, TokensFit, list_at, list_of, privacy_at, require_at};
 
-use super::ListAt;
-use super::scan::{past, sign, tokens};
-
-const NO_LIST: ListAt = ListAt {
-    good: false,
-    count: 0,
-    first: 0,
-};
+use super::Tokens;
+use super::scan::{past, sign};
+use octets::Class;
 
 // Neither of the two option tags that we have.
-fn lacking(t: &[u8]) -> bool
+#[tactic(auto, unfolding(sip::specs::Values::is_lacking, octets::specs::Classes::text))]
+fn is_lacking(t: &[u8]) -> bool
     ensures { result ≡ is_lacking t.now }
 {
-    if octets::same_text(b"100rel", t) {
-        return false;
-    }
-    !octets::same_text(b"timer", t)
+    !octets::same_text(b"100rel", t) && !octets::same_text(b"timer", t)
 }
 
 // One of the three tokens by which a caller is withheld. The one that most callers send is tried first.
-fn restricting(t: &[u8]) -> bool
+#[tactic(auto, unfolding(sip::specs::Values::is_restricting, octets::specs::Classes::text))]
+fn is_restricting(t: &[u8]) -> bool
     ensures { result ≡ is_restricting t.now }
 {
-    if octets::same_text(b"id", t) {
-        return true;
-    }
-    if octets::same_text(b"header", t) {
-        return true;
-    }
-    octets::same_text(b"user", t)
+    octets::same_text(b"id", t) || octets::same_text(b"header", t) || octets::same_text(b"user", t)
 }
 
-// The token is looked for: in a Privacy one that withholds the caller, in a Require a tag that we lack.
-fn sought(privacy: bool, t: &[u8]) -> bool
-    ensures { result ≡ cond privacy (is_restricting t.now) (is_lacking t.now) }
+// One loop for both lists: `sep` parts the tokens, `wanted` says which are looked for.
+fn list<F: Fn(&[u8]) -> bool>(sep: u8, wanted: F, v: &[u8]) -> Option<Tokens>
+    requires { F.IsAlwaysCallable wanted }
+    ensures counts { IfSome result (TokensFit v.now) }
+    ensures reads { (p : List ℕ → Bool) → Tests F.Fn wanted p → list_of result ≡ list_at sep p v.now }
 {
-    if privacy {
-        return restricting(t);
-    }
-    lacking(t)
-}
-
-// The place of the first token that is looked for: that of an earlier one, or that of t, which has `before` tokens before it.
-fn place(privacy: bool, earlier: usize, before: usize, t: &[u8]) -> usize
-    requires { before ≤ 9223372036854775807 }
-    ensures { result ≡ cond (eqb earlier 0) (cond (cond privacy (is_restricting t.now) (is_lacking t.now)) (before + 1) 0) earlier }
-{
-    if 0 < earlier {
-        return earlier;
-    }
-    if sought(privacy, t) {
-        return before + 1;
-    }
-    0
-}
-
-// One loop for both lists: `sep` parts the tokens, `privacy` says which are looked for.
-pub(crate) fn list(table: &[u8; 256], sep: u8, privacy: bool, v: &[u8]) -> ListAt
-    requires { table.now ≡ class_table }
-    ensures { result ≡ list_at sep (λ (t : List ℕ). cond privacy (is_restricting t) (is_lacking t)) v.now }
-{
-    let mut at = 0;
+    let mut left = v;
     let mut count = 0;
-    let mut first = 0;
-    while at < v.len() {
-        let left = past(v, at);
-        let size = tokens(table, left);
+    let mut first = None;
+    'tokens: loop {
+        let size = Class::Token.run(left);
         if size < 1 {
-            return NO_LIST;
+            return None;
         }
-        first = place(privacy, first, count, octets::first(left, size));
         count += 1;
+        let here = wanted(octets::first(left, size)).then_some(count);
+        first = first.or(here);
         let after = past(left, size);
         if after.len() < 1 {
-            return ListAt {
-                good: true,
-                count,
-                first,
-            };
+            return Some(Tokens { count, first });
         }
-        let gap = sign(sep, after);
-        if gap < 1 {
-            return NO_LIST;
-        }
-        let step = size + gap;
-        at += step;
+        let gap = sign(sep, after)?;
+        left = past(after, gap);
     }
-    NO_LIST
+}
+
+// Privacy: the first token by which the caller is withheld.
+pub fn privacy(v: &[u8]) -> Option<Tokens>
+    ensures { (list_of result ≡ privacy_at v.now) × IfSome result (TokensFit v.now) }
+{
+    list(b';', is_restricting, v)
+}
+
+// Require: the first tag that we lack.
+pub fn require(v: &[u8]) -> Option<Tokens>
+    ensures { (list_of result ≡ require_at v.now) × IfSome result (TokensFit v.now) }
+{
+    list(b',', is_lacking, v)
 }

@@ -1,102 +1,85 @@
 // The parameters of From and To, after the address.
-ghost use Rattle.std.specs.Prelude.{◌≡◌, ◌+◌, ◌≤◌, ◌<◌, length};
-ghost use Rattle.octets.specs.Classes.{class_table};
-ghost use Rattle.sip.specs.Values.{param_value, param_rest, param, stops, with_param, params, no_params};
+ghost use Rattle.std.specs.Prelude.{◌≡◌, ◌+◌, ◌^◌, ◌≤◌, ◌<◌, true, false, length, unwrap_or, IfSome, MatchOption};
+ghost use Rattle.sip.specs.Values.{param_value, param_rest, param, stops, with_param, params, no_params, no_param};
+ghost use Rattle.values.specs.Answers.{IsSize, ParamFits};
 
-use super::scan::{past, sign, tokens};
+use super::scan::{past, sign};
+use octets::Class;
 use sip::{ParamAt, ParamsAt};
 
-const NO_PARAM: ParamAt = ParamAt {
-    size: 0,
-    tag: false,
-    value: 0,
-    len: 0,
-};
-
-// A parameter's value: a token or a quoted string; that of a tag is a token of 1 to 64 bytes.
-fn param_value(table: &[u8; 256], is_tag: bool, s: &[u8]) -> usize
-    requires { table.now ≡ class_table }
-    ensures { (result ≡ param_value is_tag s.now) × (result ≤ length s.now) }
+// A parameter's value: a token or a quoted string; that of a tag is a token of 1 to 64 bytes. The flag is that of the definitions
+// (`param_value`, `param_rest` of sip).
+#[tactic(auto, unfolding(sip::specs::Values::param_value))]
+fn param_value(is_tag: bool, s: &[u8]) -> Option<usize>
+    ensures { IsSize result (param_value is_tag s.now) s.now }
 {
-    let token = tokens(table, s);
-    if is_tag {
-        if token <= 64 {
-            return token;
-        }
-        return 0;
+    let token = Class::Token.run(s);
+    match token {
+        1..=64 => Some(token),
+        _ if is_tag => None,
+        0 => octets::quoted(s),
+        _ => Some(token),
     }
-    if token < 1 {
-        return octets::quoted(s);
-    }
-    token
 }
 
 // What stands after the first `named` bytes of a parameter, up to its name. Both are parts of one slice, so that no sum wraps.
-fn param_rest(table: &[u8; 256], named: usize, is_tag: bool, s: &[u8]) -> ParamAt
-    requires { (table.now ≡ class_table) × (named + length s.now < 9223372036854775808) }
-    ensures { (result ≡ param_rest named is_tag s.now) × (result.size ≤ named + length s.now) × (result.value + result.len ≤ result.size) }
+#[tactic(auto, unfolding(sip::specs::Values::param_rest))]
+fn param_rest(named: usize, is_tag: bool, s: &[u8]) -> Option<ParamAt>
+    requires { (1 ≤ named) × (named + length s.now < 2 ^ 63) }
+    ensures { (unwrap_or result no_param ≡ param_rest named is_tag s.now) × IfSome result (λ p. ParamFits p (named + length s.now)) }
 {
-    let equal = sign(b'=', s);
-    if equal < 1 {
+    let Some(equal) = sign(b'=', s) else {
         if is_tag {
-            return NO_PARAM;
+            return None;
         }
-        return ParamAt {
+        return Some(ParamAt {
             size: named,
             tag: false,
             value: named,
             len: 0,
-        };
-    }
-    let len = param_value(table, is_tag, past(s, equal));
-    if len < 1 {
-        return NO_PARAM;
-    }
+        });
+    };
+    let len = param_value(is_tag, past(s, equal))?;
     let value = named + equal;
-    let size = value + len;
-    ParamAt {
-        size,
+    Some(ParamAt {
+        size: value + len,
         tag: is_tag,
         value,
         len,
-    }
+    })
 }
 
 // The parameter at the front of a text. It is the tag by its whole name, in any case.
-fn param(table: &[u8; 256], s: &[u8]) -> ParamAt
-    requires { table.now ≡ class_table }
-    ensures { (result ≡ param s.now) × (result.size ≤ length s.now) × (result.value + result.len ≤ result.size) }
+#[tactic(auto, unfolding(sip::specs::Values::param, octets::specs::Classes::text))]
+fn param(s: &[u8]) -> Option<ParamAt>
+    ensures { (unwrap_or result no_param ≡ param s.now) × IfSome result (λ p. ParamFits p (length s.now)) }
 {
-    let semicolon = sign(b';', s);
-    if semicolon < 1 {
-        return NO_PARAM;
-    }
+    let semicolon = sign(b';', s)?;
     let after = past(s, semicolon);
-    let name = tokens(table, after);
+    let name = Class::Token.run(after);
     if name < 1 {
-        return NO_PARAM;
+        return None;
     }
     let is_tag = octets::same_text(b"tag", octets::first(after, name));
-    let named = semicolon + name;
-    param_rest(table, named, is_tag, past(after, name))
+    param_rest(semicolon + name, is_tag, past(after, name))
 }
 
-// No parameter, or a second tag.
-fn stops(got: ParamsAt, p: ParamAt) -> bool
-    ensures { result ≡ stops got p }
+// One more parameter, which is no second tag.
+#[tactic(auto, unfolding(sip::specs::Values::stops))]
+fn next_param(got: ParamsAt, s: &[u8]) -> Option<ParamAt>
+    ensures { MatchOption result (stops got (param s.now) ≡ true) (λ p. (p ≡ param s.now) × (stops got p ≡ false) × ParamFits p (length s.now)) }
 {
-    if p.size < 1 {
-        return true;
+    let p = param(s)?;
+    if p.tag && got.len != 0 {
+        return None;
     }
-    if p.tag {
-        return got.len != 0;
-    }
-    false
+    Some(p)
 }
 
 // The parameters read so far, and one more.
+#[tactic(auto, unfolding(sip::specs::Values::with_param))]
 fn with_param(got: ParamsAt, p: ParamAt) -> ParamsAt
-    requires { (got.size + p.size < 9223372036854775808) × (p.value + p.len ≤ p.size) × (got.tag + got.len ≤ got.size) }
+    requires { (got.size + p.size < 2 ^ 63) × (p.value + p.len ≤ p.size) × (got.tag + got.len ≤ got.size) }
     ensures { (result ≡ with_param got p) × (result.size ≡ got.size + p.size) × (result.tag + result.len ≤ result.size) }
 {
     let size = got.size + p.size;
@@ -108,16 +91,11 @@ fn with_param(got: ParamsAt, p: ParamAt) -> ParamsAt
             len: p.len,
         };
     }
-    ParamsAt {
-        size,
-        tag: got.tag,
-        len: got.len,
-    }
+    ParamsAt { size, ..got }
 }
 
 // The parameters at the front of a text, up to what is none or a second tag.
-pub(crate) fn params(table: &[u8; 256], s: &[u8]) -> ParamsAt
-    requires { table.now ≡ class_table }
+pub(crate) fn params(s: &[u8]) -> ParamsAt
     ensures { (result ≡ params no_params 0 s.now) × (result.size ≤ length s.now) × (result.tag + result.len ≤ result.size) }
 {
     let mut got = ParamsAt {
@@ -125,12 +103,7 @@ pub(crate) fn params(table: &[u8; 256], s: &[u8]) -> ParamsAt
         tag: 0,
         len: 0,
     };
-    while got.size < s.len() {
-        let at = got.size;
-        let p = param(table, past(s, at));
-        if stops(got, p) {
-            return got;
-        }
+    while let Some(p) = next_param(got, past(s, got.size)) {
         got = with_param(got, p);
     }
     got

@@ -4,131 +4,139 @@
 // front of the table, and the rest of it is zeros. 3: a Call-ID, as long as the room says, and a tag, whose call is ended.
 #![tactic(auto)]
 
-ghost use Rattle.std.specs.Prelude.{◌<◌};
-
+use calls::Pair;
 use gateway::Verdict;
 use std::io;
 use std::io::{Read, Write};
 
-fn wide(b: u8) -> usize
-    ensures { result < 256 }
-{
-    b as usize
+// Kinds 0 to 3. Any other number is as 1.
+#[derive(Clone, Copy)]
+enum Kind {
+    Alone,
+    After,
+    Table,
+    End,
 }
 
-fn number(high: u8, low: u8) -> usize
-    ensures { result < 65536 }
-{
-    wide(high) * 256 + wide(low)
+impl From<u8> for Kind {
+    fn from(number: u8) -> Kind {
+        match number {
+            0 => Kind::Alone,
+            2 => Kind::Table,
+            3 => Kind::End,
+            _ => Kind::After,
+        }
+    }
+}
+
+#[derive(Clone, Copy)]
+struct Case<'a> {
+    kind: Kind,
+    side: u64,
+    room: u16,
+    bytes: &'a [u8],
+}
+
+impl<'a> Case<'a> {
+    // The next case, where there is one that is whole. Its bytes go into the lent place.
+    fn read<R: Read>(input: &mut R, place: &'a mut [u8; 65535]) -> Option<Case<'a>> {
+        let mut head = [0u8; 6];
+        if streams::read_full(input, &mut head) != 6 {
+            return None;
+        }
+        let len = usize::from(u16::from_be_bytes([head[4], head[5]]));
+        if streams::read_full(input, &mut place[..len]) != len {
+            return None;
+        }
+        Some(Case {
+            kind: Kind::from(head[0]),
+            side: u64::from(head[1]),
+            room: u16::from_be_bytes([head[2], head[3]]),
+            bytes: octets::first(place, len),
+        })
+    }
 }
 
 // Adler-32, as RFC 1950 has it.
 fn checksum(s: &[u8]) -> u64 {
-    let mut low: usize = 1;
-    let mut high: usize = 0;
-    let mut i = 0;
-    while i < s.len() {
-        low = (low + wide(s[i])) % 65521;
+    let mut low: u64 = 1;
+    let mut high: u64 = 0;
+    for b in s {
+        low = (low + u64::from(*b)) % 65521;
         high = (high + low) % 65521;
-        i += 1;
     }
-    (high * 65536 + low) as u64
+    high * 65536 + low
 }
 
-fn screen<W: Write>(
-    to: &mut W,
-    message: &[u8],
-    side: u8,
-    table: &mut [u8; 6208],
-    out: &mut [u8],
-) -> io::Result<()> {
-    match gateway::screen(message, side as u64, table, out) {
-        Verdict::Accepted(len) => write!(to, "0 0 0 0 {len} ")?,
-        Verdict::Refused(r) => {
-            let reason = r.reason;
-            let reply = r.reply;
-            let detail = r.detail;
-            let missing = r.missing;
-            write!(to, "{reason} {reply} {detail} {missing} 0 ")?
+// Where the answers go, and the table from case to case.
+#[derive(Drop)]
+struct Session<W: Write + Drop> {
+    to: W,
+    table: [u8; 6208],
+}
+
+impl<W: Write + Drop> Session<W> {
+    fn screen(&mut self, case: Case, out: &mut [u8]) -> io::Result<()> {
+        match gateway::screen(case.bytes, case.side, &mut self.table, out) {
+            Verdict::Accepted(len) => write!(self.to, "0 0 0 0 {len} ")?,
+            Verdict::Refused(r) => write!(
+                self.to,
+                "{} {} {} {} 0 ",
+                r.reason, r.reply, r.detail, r.missing
+            )?,
+        }
+        let sum = checksum(out);
+        write!(self.to, "{sum} ")
+    }
+
+    // Puts the bytes to the front of the table, and zeros behind them.
+    fn fill(&mut self, s: &[u8]) {
+        self.table = [0u8; 6208];
+        emit::put(&mut self.table, 0, s);
+    }
+
+    fn end(&mut self, case: Case) -> io::Result<()> {
+        let id_len = usize::from(case.room);
+        let pair = Pair {
+            call_id: octets::first(case.bytes, id_len),
+            tag: octets::rest(case.bytes, id_len),
+        };
+        match calls::end(&mut self.table, pair) {
+            Ok(()) => write!(self.to, "0 "),
+            Err(e) => write!(self.to, "{} ", e.refusal()),
         }
     }
-    let sum = checksum(out);
-    write!(to, "{sum} ")
-}
 
-// Puts the bytes to the front of the table, and zeros behind them.
-fn fill(table: &mut [u8; 6208], s: &[u8]) {
-    *table = [0u8; 6208];
-    emit::put(table, 0, s);
-}
-
-fn end<W: Write>(to: &mut W, table: &mut [u8; 6208], s: &[u8], id_len: usize) -> io::Result<()> {
-    let answer = calls::end(table, octets::first(s, id_len), octets::rest(s, id_len));
-    write!(to, "{answer} ")
-}
-
-fn run<W: Write>(
-    to: &mut W,
-    kind: u8,
-    side: u8,
-    room: usize,
-    s: &[u8],
-    table: &mut [u8; 6208],
-    out: &mut [u8],
-) -> io::Result<()> {
-    if kind == 2 {
-        fill(table, s);
-        return Ok(());
+    // One case, whose buffer is the front of the lent one, as long as its room.
+    fn run(&mut self, case: Case, out: &mut [u8; 65535]) -> io::Result<()> {
+        let room = usize::from(case.room);
+        match case.kind {
+            Kind::Alone => {
+                self.fill(b"");
+                self.screen(case, &mut out[..room])?
+            }
+            Kind::After => self.screen(case, &mut out[..room])?,
+            Kind::Table => self.fill(case.bytes),
+            Kind::End => self.end(case)?,
+        }
+        let sum = checksum(&self.table);
+        writeln!(self.to, "{sum}")
     }
-    if kind == 3 {
-        return end(to, table, s, room);
-    }
-    if kind == 0 {
-        fill(table, b"");
-    }
-    screen(to, s, side, table, out)
-}
-
-// One case; whether there was one that is whole.
-fn case<R: Read, W: Write>(
-    input: &mut R,
-    to: &mut W,
-    message: &mut [u8],
-    out: &mut [u8],
-    table: &mut [u8; 6208],
-) -> io::Result<bool> {
-    let mut head = [0u8; 6];
-    if streams::read_full(input, &mut head) != 6 {
-        return Ok(false);
-    }
-    let room = number(head[2], head[3]);
-    let len = number(head[4], head[5]);
-    if message.len() < len {
-        return Ok(false);
-    }
-    if out.len() < room {
-        return Ok(false);
-    }
-    if streams::read_full(input, &mut message[..len]) != len {
-        return Ok(false);
-    }
-    let given = octets::first(message, len);
-    run(to, head[0], head[1], room, given, table, &mut out[..room])?;
-    let sum = checksum(table);
-    writeln!(to, "{sum}")?;
-    Ok(true)
 }
 
 fn main(rt: HostRuntime) -> io::Result<()> {
     let mut input = rt.stdin();
-    let mut to = rt.stdout();
-    let mut message = [0u8; 65535];
-    let mut table = [0u8; 6208];
+    let mut session = Session {
+        to: rt.stdout(),
+        table: [0u8; 6208],
+    };
+    let mut place = [0u8; 65535];
     for _ in 0..65536usize {
         let mut out = [165u8; 65535];
-        if !case(&mut input, &mut to, &mut message, &mut out, &mut table)? {
+        let Some(case) = Case::read(&mut input, &mut place) else {
             return Ok(());
-        }
+        };
+        session.run(case, &mut out)?;
     }
     Ok(())
 }

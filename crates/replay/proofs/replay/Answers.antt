@@ -4,18 +4,18 @@ use Rattle.records.proofs.Texts.{turn_first, turn_none, turn_over, turn_next, tu
 use borrow.Author.Rules.{rules}
 use Rattle.replay.proofs.replay.Goals as goal
 
-pub loop-left-init : goal.loop-left-init
+pub loop-init : goal.loop-init
 unfolding none_held
-loop-left-init g c = (search rules, search turn_first)
+loop-init g c = (search rules, search turn_first)
 
-pub returns-then-n-lt1 : goal.returns-then-n-lt1
-returns-then-n-lt1 g c = search turn_none
+pub returns-then-n-eq0 : goal.returns-then-n-eq0
+returns-then-n-eq0 g c = search turn_none
 
 pub returns-then-st-ne0 : goal.returns-then-st-ne0
 returns-then-st-ne0 g c = search (turn_over, rules)
 
-pub loop-left-preserved : goal.loop-left-preserved
-loop-left-preserved g c = (search rules, search (turn_next, rules))
+pub loop-preserved : goal.loop-preserved
+loop-preserved g c = (search rules, search (turn_next, rules))
 
 pub returns : goal.returns
-returns g c = search turn_last
+returns g c = search (turn_last, rules)

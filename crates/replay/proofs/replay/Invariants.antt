@@ -5,8 +5,5 @@ use Rattle.records.specs.Running.{state_of}
 use Rattle.records.proofs.Texts.{Turn}
 use Rattle.replay.proofs.replay.Given as goal
 
-abbrev pub invariant-loop-left : goal.invariant-loop-left
-invariant-loop-left g l = (length l.space ≡ 65540) × Turn (state_of l.st l.calls) l.left
-
-abbrev pub decreases-loop-left : goal.decreases-loop-left
-decreases-loop-left g l = l.left
+abbrev pub invariant-loop : goal.invariant-loop
+invariant-loop g l = (length l.space ≡ 65540) × Turn (state_of l.st l.calls) l.counter

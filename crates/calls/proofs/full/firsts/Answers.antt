@@ -1,6 +1,6 @@
 -- Part by part (Parts).
+use Rattle.std.proofs.Common.{rules}
 use Rattle.calls.proofs.Parts.{all_first}
-use borrow.Author.Rules.{rules}
 use Rattle.calls.proofs.full.firsts.Goals as goal
 
 pub refined-first-requires : goal.refined-first-requires

@@ -1,13 +1,7 @@
--- By one byte, then by all (Masks).
-use Rattle.calls.proofs.Masks.{joins_not, joins_one, joins_all}
-use borrow.Author.Rules.{rules}
+-- By the one byte (Masks).
+use Rattle.std.proofs.Common.{rules}
+use Rattle.calls.proofs.Masks.{joins_not}
 use Rattle.calls.proofs.full.joins.Goals as goal
 
-pub returns-then-other-first : goal.returns-then-other-first
-returns-then-other-first c = search (joins_not, rules)
-
-pub returns-then-table-a : goal.returns-then-table-a
-returns-then-table-a c = search (joins_one, rules)
-
-pub returns : goal.returns
-returns c = search (joins_all, rules)
+pub returns-else-a-one : goal.returns-else-a-one
+returns-else-a-one c = search (joins_not, rules)

@@ -1,6 +1,6 @@
--- The invariant: the first k are right (Parts).
+-- One more is right (Parts).
+use Rattle.std.proofs.Common.{rules}
 use Rattle.calls.proofs.Parts.{firsts_none, firsts_next, firsts_end}
-use borrow.Author.Rules.{rules}
 use Rattle.calls.proofs.full.refined.Goals as goal
 
 pub loop-k-init : goal.loop-k-init

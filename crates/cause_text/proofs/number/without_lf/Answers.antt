@@ -1,12 +1,6 @@
 -- By the last byte.
-use Rattle.cause_text.proofs.Input.{none, ended, not_ended}
+use Rattle.cause_text.proofs.Input.{last_taken}
 use Rattle.cause_text.proofs.number.without_lf.Goals as goal
 
-pub returns-then-s-lt1 : goal.returns-then-s-lt1
-returns-then-s-lt1 c = search none
-
-pub returns-then-s-last-eq10 : goal.returns-then-s-last-eq10
-returns-then-s-last-eq10 c = search ended
-
 pub returns : goal.returns
-returns c = search not_ended
+returns c = rw c.unwrap_or.ensures (last_taken c.args.s c.strip_suffix.result c.strip_suffix.ensures.cases)

@@ -49,77 +49,77 @@ unlisted n h1 h2 h3 h4 h5 h6 h7 h8 h9 h10 h11 h12 h13 h14 h15 h16 h17 h18 w =
     let empty : name_of n ≡ [] = rw (name_of, find_none rows n none_listed) in
     rw empty w
 
-pub few-requires : goal.few-requires
+pub put-requires : goal.put-requires
 unfolding name_of find rows text
-few-requires c = search (fits 1)
+put-requires c = search (fits 1)
 
-pub few-requires-in-2 : goal.few-requires-in-2
+pub put-requires-in-2 : goal.put-requires-in-2
 unfolding name_of find rows text
-few-requires-in-2 c = search (fits 2)
+put-requires-in-2 c = search (fits 2)
 
-pub few-requires-in-3 : goal.few-requires-in-3
+pub put-requires-in-3 : goal.put-requires-in-3
 unfolding name_of find rows text
-few-requires-in-3 c = search (fits 3)
+put-requires-in-3 c = search (fits 3)
 
-pub few-requires-in-4 : goal.few-requires-in-4
+pub put-requires-in-4 : goal.put-requires-in-4
 unfolding name_of find rows text
-few-requires-in-4 c = search (fits 4)
+put-requires-in-4 c = search (fits 4)
 
-pub few-requires-in-5 : goal.few-requires-in-5
+pub put-requires-in-5 : goal.put-requires-in-5
 unfolding name_of find rows text
-few-requires-in-5 c = search (fits 5)
+put-requires-in-5 c = search (fits 5)
 
-pub few-requires-in-6 : goal.few-requires-in-6
+pub put-requires-in-6 : goal.put-requires-in-6
 unfolding name_of find rows text
-few-requires-in-6 c = search (fits 6)
+put-requires-in-6 c = search (fits 6)
 
-pub few-requires-in-7 : goal.few-requires-in-7
+pub put-requires-in-7 : goal.put-requires-in-7
 unfolding name_of find rows text
-few-requires-in-7 c = search (fits 7)
+put-requires-in-7 c = search (fits 7)
 
-pub few-requires-in-8 : goal.few-requires-in-8
+pub put-requires-in-8 : goal.put-requires-in-8
 unfolding name_of find rows text
-few-requires-in-8 c = search (fits 8)
+put-requires-in-8 c = search (fits 8)
 
-pub few-requires-in-9 : goal.few-requires-in-9
+pub put-requires-in-9 : goal.put-requires-in-9
 unfolding name_of find rows text
-few-requires-in-9 c = search (fits 9)
+put-requires-in-9 c = search (fits 9)
 
-pub few-requires-in-10 : goal.few-requires-in-10
+pub put-requires-in-10 : goal.put-requires-in-10
 unfolding name_of find rows text
-few-requires-in-10 c = search (fits 10)
+put-requires-in-10 c = search (fits 10)
 
-pub few-requires-in-11 : goal.few-requires-in-11
+pub put-requires-in-11 : goal.put-requires-in-11
 unfolding name_of find rows text
-few-requires-in-11 c = search (fits 11)
+put-requires-in-11 c = search (fits 11)
 
-pub few-requires-in-12 : goal.few-requires-in-12
+pub put-requires-in-12 : goal.put-requires-in-12
 unfolding name_of find rows text
-few-requires-in-12 c = search (fits 12)
+put-requires-in-12 c = search (fits 12)
 
-pub few-requires-in-13 : goal.few-requires-in-13
+pub put-requires-in-13 : goal.put-requires-in-13
 unfolding name_of find rows text
-few-requires-in-13 c = search (fits 13)
+put-requires-in-13 c = search (fits 13)
 
-pub few-requires-in-14 : goal.few-requires-in-14
+pub put-requires-in-14 : goal.put-requires-in-14
 unfolding name_of find rows text
-few-requires-in-14 c = search (fits 14)
+put-requires-in-14 c = search (fits 14)
 
-pub few-requires-in-15 : goal.few-requires-in-15
+pub put-requires-in-15 : goal.put-requires-in-15
 unfolding name_of find rows text
-few-requires-in-15 c = search (fits 15)
+put-requires-in-15 c = search (fits 15)
 
-pub few-requires-in-16 : goal.few-requires-in-16
+pub put-requires-in-16 : goal.put-requires-in-16
 unfolding name_of find rows text
-few-requires-in-16 c = search (fits 16)
+put-requires-in-16 c = search (fits 16)
 
-pub few-requires-in-17 : goal.few-requires-in-17
+pub put-requires-in-17 : goal.put-requires-in-17
 unfolding name_of find rows text
-few-requires-in-17 c = search (fits 17)
+put-requires-in-17 c = search (fits 17)
 
-pub few-requires-in-18 : goal.few-requires-in-18
+pub put-requires-in-18 : goal.put-requires-in-18
 unfolding name_of find rows text
-few-requires-in-18 c = search (fits 18)
+put-requires-in-18 c = search (fits 18)
 
 pub returns-in-1 : goal.returns-in-1
 unfolding name_of find rows text

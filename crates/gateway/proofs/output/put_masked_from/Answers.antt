@@ -44,12 +44,12 @@ module _ (tag : Span) (v : List ℕ) (b : Bool) where
       both : {d₂ : List ℕ} {r : ℕ} → Wrote d₁ n y r d₂ → Wrote d at (anonymous ++ tagged) r d₂
       both q = then p (wrote_as q tagged tag_is) (rw anonymous_length h)
 
-pub few-next-requires : goal.few-next-requires
-few-next-requires c = search (front_fits, rules)
+pub put-next-requires : goal.put-next-requires
+put-next-requires c = search (front_fits, rules)
 
-pub many-requires : goal.many-requires
+pub value-requires : goal.value-requires
 unfolding anonymous text
-many-requires c = search (tag_fits, rules)
+value-requires c = search (tag_fits, rules)
 
 pub returns : goal.returns
 unfolding anonymous text

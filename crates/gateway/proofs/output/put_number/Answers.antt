@@ -24,14 +24,14 @@ module _ (n : ℕ) (d : List ℕ) (at : ℕ) where
     two : {a : ℕ} → a ≡ 48 + n / 10 % 10 → 10 ≤ n → n < 100 → Wrote d at (a ∷ b ∷ []) r d' → Wrote d at (numeral n) r d'
     two ea k l w = wrote_as w (numeral n) (rw (eb, ea) (sym (numeral_two n k l)))
 
-pub few-requires : goal.few-requires
-few-requires c = search (one_fits, rules)
+pub put-requires : goal.put-requires
+put-requires c = search (one_fits, rules)
 
 pub returns-then-n-lt10 : goal.returns-then-n-lt10
 returns-then-n-lt10 c = search one
 
-pub few-requires-then-n-lt100 : goal.few-requires-then-n-lt100
-few-requires-then-n-lt100 c = search (two_fit, rules)
+pub put-requires-then-n-lt100 : goal.put-requires-then-n-lt100
+put-requires-then-n-lt100 c = search (two_fit, rules)
 
 pub returns-then-n-lt100 : goal.returns-then-n-lt100
 returns-then-n-lt100 c = search two

@@ -1,15 +1,13 @@
 -- By the length and the bit of odd/even (Decoding).
-use Rattle.isup.proofs.Decoding.{cut_two, cut_even, cut_odd, cut_bare}
+use Rattle.isup.proofs.Decoding.{cut_short, cut_bare, cut_not}
+use borrow.Author.Rules.{rules}
 use Rattle.isup.proofs.backward.is_cut.Goals as goal
 
-pub returns-then-s-lt2 : goal.returns-then-s-lt2
-returns-then-s-lt2 c = search cut_two
+pub returns-in-empty : goal.returns-in-empty
+returns-in-empty c = search (cut_short, rules)
 
-pub returns-then-byte_at-lt128 : goal.returns-then-byte_at-lt128
-returns-then-byte_at-lt128 c = search cut_even
+pub returns-in-len2 : goal.returns-in-len2
+returns-in-len2 c = search (cut_bare, rules)
 
-pub returns-then-s-gt2 : goal.returns-then-s-gt2
-returns-then-s-gt2 c = search cut_odd
-
-pub returns : goal.returns
-returns c = search cut_bare
+pub returns-in_default : goal.returns-in_default
+returns-in_default c = search (cut_not, rules)

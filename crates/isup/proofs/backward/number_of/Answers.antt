@@ -1,10 +1,17 @@
--- Plus, code and digits stand one behind the other (Decoding).
-use Rattle.isup.proofs.Decoding.{digits_fit, number_filled}
-use borrow.Author.Rules.{rules}
+-- The first i digits stand behind the prefix (Decoding).
+use Rattle.std.proofs.Common.{rules}
+use Rattle.isup.specs.Fields.{signals}
+use Rattle.isup.proofs.Decoding.{on_ok, number_begin, number_room, number_next}
 use Rattle.isup.proofs.backward.number_of.Goals as goal
 
-pub put_digits-requires : goal.put_digits-requires
-put_digits-requires c = (search (digits_fit, rules), search rules)
+pub loop-i-init : goal.loop-i-init
+unfolding signals
+loop-i-init c =
+    number_begin c.args.prefix.now c.new-number.ensures c.push.ensures.items
+    (on_ok c.try_extend_from_slice.result c.unwrap.ensures c.try_extend_from_slice.ensures.ok)
 
-pub returns : goal.returns
-returns c = search (number_filled, rules)
+pub push-requires-in-loop-i : goal.push-requires-in-loop-i
+push-requires-in-loop-i c = search (number_room, rules)
+
+pub loop-i-preserved : goal.loop-i-preserved
+loop-i-preserved c = search (number_next, rules)

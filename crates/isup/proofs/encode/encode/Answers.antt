@@ -1,9 +1,10 @@
 -- The digits that are sent are digits, 15 at most (Encoding).
-use Rattle.isup.proofs.Encoding.{are_digits, are_few, parameter_is}
+use Rattle.isup.proofs.Encoding.{are_digits, are_few, octets_are}
+use borrow.Author.Rules.{rules}
 use Rattle.isup.proofs.encode.encode.Goals as goal
 
-pub octets_of-bytes-requires : goal.octets_of-bytes-requires
-octets_of-bytes-requires c = (search are_digits, search are_few)
+pub push_pairs-requires : goal.push_pairs-requires
+push_pairs-requires c = (search are_digits, search are_few, search rules)
 
 pub returns : goal.returns
-returns c = search parameter_is
+returns c = search octets_are

@@ -1,9 +1,12 @@
 -- With the code or without it.
-use Rattle.isup.proofs.Encoding.{code_left_out, code_stays}
+use Rattle.std.proofs.Common.{rules}
+use Rattle.isup.specs.Forward.{sent}
 use Rattle.isup.proofs.encode.sent_part.Goals as goal
 
-pub returns-then-national : goal.returns-then-national
-returns-then-national c = search code_left_out
+pub returns-in-National : goal.returns-in-National
+unfolding sent
+returns-in-National c = search rules
 
-pub returns : goal.returns
-returns c = search code_stays
+pub returns-in-International : goal.returns-in-International
+unfolding sent
+returns-in-International c = search rules

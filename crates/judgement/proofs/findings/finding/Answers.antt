@@ -1,10 +1,10 @@
 -- What is found in a value: the answer of the reader for its number (Found).
 use borrow.Author.Rules.{rules}
-use Rattle.judgement.proofs.Found.{read, sequence, other}
+use Rattle.judgement.proofs.Found.{hops, cut, read, other}
 use Rattle.judgement.proofs.findings.finding.Goals as goal
 
 pub returns-in-2 : goal.returns-in-2
-returns-in-2 c = search (read, rules)
+returns-in-2 c = search (hops, rules)
 
 pub returns-in-3 : goal.returns-in-3
 returns-in-3 c = search (read, rules)
@@ -15,11 +15,8 @@ returns-in-4 c = search (read, rules)
 pub returns-in-5 : goal.returns-in-5
 returns-in-5 c = search (read, rules)
 
-pub returns-in-6 : goal.returns-in-6
-returns-in-6 c = search (sequence, rules)
-
 pub returns-in-8 : goal.returns-in-8
-returns-in-8 c = search (read, rules)
+returns-in-8 c = search (cut, rules)
 
 pub returns-in-14 : goal.returns-in-14
 returns-in-14 c = search (read, rules)

@@ -1,26 +1,25 @@
 -- What is found in a From is what its address and parameters say.
-use borrow.Author.Rules.{rules}
-use mathlib.Core.Path.{◌≡◌}
-use mathlib.Core.Bool.{true, false, not}
+use mathlib.Core.Path.{◌≡◌, ◌∙◌}
+use mathlib.Core.Bool.{not, ◌&&◌}
 use mathlib.Core.List.{List, []}
 use Prim.Native.Nat.{ℕ}
+use native.Mathlib.Omega.{arith}
 use lib.Dec.{eqb}
 use Rattle.sip.specs.declared.PartyAt.{PartyAt}
 use Rattle.sip.specs.Values.{party}
-use Rattle.judgement.specs.Tallies.{finding}
+use Rattle.judgement.specs.Tallies.{found, finding}
 use Rattle.judgement.proofs.findings.from.Goals as goal
 
-module _ (v : List ℕ) {p : PartyAt} (e : p ≡ party v) where
-  whole : p.good ≡ true → record { good = not (eqb p.len 0); schemes = 0; start = p.tag; len = p.len } ≡ finding [] 3 v
-  unfolding finding
-  whole q = rw (← e, q)
+from_found : (v : List ℕ) {p : PartyAt} → p ≡ party v → found (p.good && not (eqb p.len 0)) p.tag p.len ≡ finding [] 3 v
+unfolding finding
+from_found v e = rw e
 
-  other : p.good ≡ false → record { good = p.good; schemes = 0; start = p.tag; len = p.len } ≡ finding [] 3 v
-  unfolding finding
-  other q = rw (← e, q)
+pub returns-in-Some : goal.returns-in-Some
+returns-in-Some c =
+    let e = c.in-Some.ensures in
+    (c.found.ensures ∙ from_found c.args.v.now e.0, rw c.found.ensures (omega (arith, e.1)))
 
-pub returns-then-p : goal.returns-then-p
-returns-then-p c = search (whole, rules)
-
-pub returns-else-p : goal.returns-else-p
-returns-else-p c = search (other, rules)
+pub returns-in-None : goal.returns-in-None
+returns-in-None c =
+    let e = c.in-None.ensures in
+    (c.plain.ensures.0 ∙ from_found c.args.v.now e.0, omega (arith, c.plain.ensures))

@@ -1,32 +1,28 @@
--- By whether a value that is not empty is asked for.
-use borrow.Author.Rules.{rules}
-use mathlib.Core.Path.{◌≡◌, refl, ◌∙◌}
-use mathlib.Core.Bool.{Bool, true, false, not, cond}
+-- Of the fields of which only that is asked, whether the value is empty.
+use mathlib.Core.Path.{◌≡◌, refl, sym}
+use mathlib.Core.Bool.{true}
 use mathlib.Core.List.{List, [], ◌∷◌}
-use Prim.Native.Nat.{ℕ, suc}
-use native.Mathlib.Omega.{arith}
-use lib.Dec.{eqb}
+use Prim.Native.Nat.{ℕ}
+use lib.Dec.{eqb, eqb-suc-zero}
 use lib.ListN.{length}
-use borrow.Author.Tests.{ne_eqb}
+use Rattle.std.proofs.Common.{inl, inr}
 use Rattle.sip.specs.Values.{is_empty}
-use Rattle.judgement.specs.declared.Finding.{Finding}
-use Rattle.judgement.specs.Tallies.{found, only_filled}
+use Rattle.judgement.specs.Tallies.{only_filled}
 use Rattle.judgement.proofs.findings.other.Goals as goal
 
-no_bytes : (v : List ℕ) → not (eqb (length v) 0) ≡ not (is_empty v)
+filled : (k : ℕ) {n : ℕ} → only_filled k ≡ true → n ≡ k → only_filled n ≡ true
+filled k f q = rw q f
+
+emptied : (v : List ℕ) → is_empty v ≡ eqb (length v) 0
 unfolding is_empty
-no_bytes [] = refl
-no_bytes (b ∷ v) = rw (ne_eqb (suc (length v)) 0 (λ q. omega arith))
+emptied [] = refl
+emptied (b ∷ s) = sym (eqb-suc-zero (length s))
 
-module _ (n : ℕ) (v : List ℕ) {t : Bool} (h : t ≡ only_filled n) {r : Finding} where
-  asked : t ≡ true → r ≡ found (not (eqb (length v) 0)) 0 0 → r ≡ found (cond (only_filled n) (not (is_empty v)) true) 0 0
-  asked q e = e ∙ rw (← h, q, no_bytes v)
-
-  unasked : t ≡ false → r ≡ found true 0 0 → r ≡ found (cond (only_filled n) (not (is_empty v)) true) 0 0
-  unasked q e = e ∙ rw (← h, q)
-
-pub returns-then-only_filled : goal.returns-then-only_filled
-returns-then-only_filled c = search (asked, rules)
-
-pub returns : goal.returns
-returns c = search (unasked, rules)
+pub returns-then-n-eq1 : goal.returns-then-n-eq1
+returns-then-n-eq1 c =
+    let h : only_filled c.args.n ≡ true =
+    elim c.then-n-eq1.either [
+      | inl q ↦ filled 1 refl q
+      | inr d ↦ elim d [ inl q ↦ filled 7 refl q.1 | inr d ↦ elim d [ inl q ↦ filled 9 refl q.2 | inr d ↦ elim d [ inl q ↦ filled 10 refl q.3 | inr d ↦ elim d [ inl q ↦ filled 11 refl q.4 | inr q ↦ filled 18 refl q.5 ] ] ] ]
+    ] in
+    rw (h, emptied c.args.v.now) c.plain.ensures

@@ -1,5 +1,6 @@
--- Each arm's number is its column's set, which computes.
+-- Each arm's number is its columns' set, which computes.
 use mathlib.Core.Path.{◌≡◌}
+use Rattle.std.proofs.Common.{inl, inr}
 use Rattle.sip.specs.declared.Column.{Column}
 use Rattle.sip.specs.declared.Column.TheVariants.{Invite, Reinvite, Ack, Bye, Cancel, Options, InviteSuccess, CancelResponse, OtherResponse}
 use Rattle.sip.specs.Profile.{find, ignored, mark, numbers, rows}
@@ -11,11 +12,7 @@ at k e = rw e
 
 pub returns-in-Invite : goal.returns-in-Invite
 unfolding kept_set set_of numbers rows find mark ignored
-returns-in-Invite c = search (at Invite)
-
-pub returns-in-Reinvite : goal.returns-in-Reinvite
-unfolding kept_set set_of numbers rows find mark ignored
-returns-in-Reinvite c = search (at Reinvite)
+returns-in-Invite c = elim c.in-Invite.is [ inl e ↦ at Invite e | inr e ↦ at Reinvite e ]
 
 pub returns-in-Ack : goal.returns-in-Ack
 unfolding kept_set set_of numbers rows find mark ignored
@@ -35,12 +32,8 @@ returns-in-Options c = search (at Options)
 
 pub returns-in-InviteSuccess : goal.returns-in-InviteSuccess
 unfolding kept_set set_of numbers rows find mark ignored
-returns-in-InviteSuccess c = search (at InviteSuccess)
+returns-in-InviteSuccess c = elim c.in-InviteSuccess.is [ inl e ↦ at InviteSuccess e | inr e ↦ at OtherResponse e ]
 
 pub returns-in-CancelResponse : goal.returns-in-CancelResponse
 unfolding kept_set set_of numbers rows find mark ignored
 returns-in-CancelResponse c = search (at CancelResponse)
-
-pub returns-in-OtherResponse : goal.returns-in-OtherResponse
-unfolding kept_set set_of numbers rows find mark ignored
-returns-in-OtherResponse c = search (at OtherResponse)

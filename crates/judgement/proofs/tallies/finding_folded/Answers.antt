@@ -4,6 +4,6 @@ use Rattle.judgement.specs.Sets.{has}
 use Rattle.judgement.proofs.Kept.{unread_found}
 use Rattle.judgement.proofs.tallies.finding_folded.Goals as goal
 
-pub returns-then-not-in_set : goal.returns-then-not-in_set
+pub returns-then-not-is_read : goal.returns-then-not-is_read
 unfolding has
-returns-then-not-in_set c = search (unread_found, rules)
+returns-then-not-is_read c = search (unread_found, rules)

@@ -7,7 +7,7 @@ use Rattle.judgement.proofs.Kept.{whole}
 use Rattle.judgement.proofs.tallies.tally.Given as goal
 
 abbrev pub invariant-loop-i : goal.invariant-loop-i
-invariant-loop-i l = (l.i ≤ l.end) × (l.end ≡ l.count) × (l.t.tags ≤ 8192 * l.i) × (whole l.method l.message l.kept l.slots l.end ≡ tallied l.method l.t (entries_from l.kept l.message l.slots (l.end - l.i) l.i))
-
-abbrev pub decreases-loop-i : goal.decreases-loop-i
-decreases-loop-i l = l.end - l.i
+invariant-loop-i l =
+    (l.end ≡ l.read.head.count) × (l.t.tags ≤ 8192 * l.i)
+    × (whole l.method l.read.message.now l.kept l.read.slots.now l.end
+    ≡ tallied l.method l.t (entries_from l.kept l.read.message.now l.read.slots.now (l.end - l.i) l.i))

@@ -7,8 +7,8 @@ use Rattle.octets.specs.Scans.{run}
 use Rattle.lines.specs.Sizes.{value_end}
 use Rattle.lines.proofs.field.last_line.Given as goal
 
-abbrev pub invariant-loop-after : goal.invariant-loop-after
-invariant-loop-after l = (l.end ≤ length l.s) × (run is_value (drop l.end l.s) ≡ 0) × (value_end l.s l.line ≡ value_end l.s l.end)
+abbrev pub invariant-loop-end : goal.invariant-loop-end
+invariant-loop-end l = (l.end ≤ length l.s) × (run is_value (drop l.end l.s) ≡ 0) × (value_end l.s l.line ≡ value_end l.s l.end)
 
-abbrev pub decreases-loop-after : goal.decreases-loop-after
-decreases-loop-after l = length l.s - l.end
+abbrev pub decreases-loop-end : goal.decreases-loop-end
+decreases-loop-end l = length l.s - l.end

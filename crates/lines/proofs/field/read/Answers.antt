@@ -1,15 +1,16 @@
 -- Each answer is a law of the field by its tests.
-use Rattle.lines.proofs.Fields.{nameless, colonless, endless, found}
+use borrow.Author.Rules.{rules}
+use Rattle.lines.proofs.Fields.{nameless, colonless, endless_value, found_value}
 use Rattle.lines.proofs.field.read.Goals as goal
 
 pub returns-then-name-at : goal.returns-then-name-at
-returns-then-name-at c = search nameless
+returns-then-name-at c = search (nameless, rules)
 
-pub returns-then-value-name : goal.returns-then-value-name
-returns-then-value-name c = search colonless
+pub returns-in_err-value : goal.returns-in_err-value
+returns-in_err-value c = search (colonless, rules)
 
-pub returns-then-s-end : goal.returns-then-s-end
-returns-then-s-end c = search endless
+pub returns-in_err-found : goal.returns-in_err-found
+returns-in_err-found c = search (endless_value, rules)
 
 pub returns : goal.returns
-returns c = search found
+returns c = search (found_value, rules)

@@ -1,24 +1,28 @@
 -- The invariant: what is found from place at on is the answer. The measure is what is left of the text.
-use Rattle.lines.proofs.Finds.{over, no_field, name_after, name_within, next_small, next_less, hit, next}
+use borrow.Author.Rules.{rules}
+use Rattle.lines.proofs.Finds.{no_field, name_after, name_within, next_small, next_less, hit, next}
 use Rattle.lines.proofs.find.after_line.Goals as goal
 
-pub returns-in_default : goal.returns-in_default
-returns-in_default c = search no_field
+pub slice_bounds-same_text-count : goal.slice_bounds-same_text-count
+slice_bounds-same_text-count c = search (name_after, rules)
 
-pub is_name-requires : goal.is_name-requires
-is_name-requires c = (search name_after, search name_within)
+pub slice_bounds-same_text-start : goal.slice_bounds-same_text-start
+slice_bounds-same_text-start c = search (name_after, rules)
 
-pub returns-then-is_name : goal.returns-then-is_name
-returns-then-is_name c = search hit
+pub slice_bounds-same_text-end : goal.slice_bounds-same_text-end
+slice_bounds-same_text-end c = search (name_within, rules)
 
-pub overflow_add-at-in-loop-at : goal.overflow_add-at-in-loop-at
-overflow_add-at-in-loop-at c = record { fits = search next_small }
+pub returns-then-same_text : goal.returns-then-same_text
+returns-then-same_text c = search (hit, rules)
 
-pub loop-at-smaller : goal.loop-at-smaller
-loop-at-smaller c = search next_less
+pub overflow_add-at-in-Some : goal.overflow_add-at-in-Some
+overflow_add-at-in-Some c = record { fits = search (next_small, rules) }
 
-pub loop-at-preserved : goal.loop-at-preserved
-loop-at-preserved c = search next
+pub loop-f-smaller : goal.loop-f-smaller
+loop-f-smaller c = search (next_less, rules)
+
+pub loop-f-preserved : goal.loop-f-preserved
+loop-f-preserved c = search (next, rules)
 
 pub returns : goal.returns
-returns c = search over
+returns c = search (no_field, rules)

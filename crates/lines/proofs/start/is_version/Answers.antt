@@ -6,9 +6,10 @@ use Rattle.lines.proofs.start.is_version.Goals as goal
 pub returns-then-s-at-lt10 : goal.returns-then-s-at-lt10
 returns-then-s-at-lt10 c = search too_short
 
-pub returns-then-in_capitals : goal.returns-then-in_capitals
-returns-then-in_capitals c = search told_version
-
-pub returns : goal.returns
+pub returns-then-stand : goal.returns-then-stand
 unfolding text
-returns c = search compared_version
+returns-then-stand c = search told_version
+
+pub returns-else-stand : goal.returns-else-stand
+unfolding text
+returns-else-stand c = search compared_version

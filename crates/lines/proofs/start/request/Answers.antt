@@ -1,5 +1,6 @@
 -- Each answer is a law of the request line.
-use Rattle.lines.proofs.Starts.{method_short, method_long, method_last, no_space, without_uri, a_request}
+use borrow.Author.Rules.{rules}
+use Rattle.lines.proofs.Starts.{method_short, method_long, method_last, no_space, no_uri, a_request}
 use Rattle.lines.proofs.start.request.Goals as goal
 
 pub returns-then-method-lt1 : goal.returns-then-method-lt1
@@ -14,8 +15,8 @@ returns-then-s-method c = search method_last
 pub returns-then-s-method-ne32 : goal.returns-then-s-method-ne32
 returns-then-s-method-ne32 c = search no_space
 
-pub returns-then-uri-lt1 : goal.returns-then-uri-lt1
-returns-then-uri-lt1 c = search without_uri
+pub returns-in_err-uri : goal.returns-in_err-uri
+returns-in_err-uri c = search (no_uri, rules)
 
 pub returns : goal.returns
-returns c = search a_request
+returns c = search (a_request, rules)

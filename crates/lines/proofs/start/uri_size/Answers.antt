@@ -3,8 +3,8 @@ use Rattle.lines.proofs.Starts.{uri_short, uri_long, no_version, a_version}
 use borrow.Author.Rules.{rules}
 use Rattle.lines.proofs.start.uri_size.Goals as goal
 
-pub returns-then-end-at : goal.returns-then-end-at
-returns-then-end-at c = search (uri_short, rules)
+pub returns-then-uri-lt1 : goal.returns-then-uri-lt1
+returns-then-uri-lt1 c = search (uri_short, rules)
 
 pub returns-then-uri-gt256 : goal.returns-then-uri-gt256
 returns-then-uri-gt256 c = search (uri_long, rules)

@@ -1,15 +1,15 @@
 -- Told by its words, or compared in any letter case.
 use Rattle.octets.specs.Classes.{text}
-use Rattle.lines.proofs.Statuses.{too_short, in_capitals, compared_version}
+use Rattle.lines.proofs.Statuses.{too_short, told_version, compared_version}
 use Rattle.lines.proofs.status.is_version.Goals as goal
 
 pub returns-then-s-lt8 : goal.returns-then-s-lt8
 returns-then-s-lt8 c = search too_short
 
-pub returns-then-both : goal.returns-then-both
+pub returns-then-stand : goal.returns-then-stand
 unfolding text
-returns-then-both c = search in_capitals
+returns-then-stand c = search told_version
 
-pub returns : goal.returns
+pub returns-else-stand : goal.returns-else-stand
 unfolding text
-returns c = search compared_version
+returns-else-stand c = search compared_version

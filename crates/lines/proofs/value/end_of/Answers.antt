@@ -1,16 +1,11 @@
--- The invariant: without its gap at the end, the text is its first `end` bytes without theirs. The measure is `end`.
-use Rattle.lines.proofs.Trims.{all_left, none_left, no_gap, a_gap}
-use borrow.Author.Rules.{rules}
+-- The last byte that is no gap ends what is left.
+use Rattle.octets.specs.Classes.{is_gap}
+use Rattle.std.proofs.Common.{rules}
+use Rattle.lines.proofs.Trims.{none_left, last_stays}
 use Rattle.lines.proofs.value.end_of.Goals as goal
 
-pub loop-end-init : goal.loop-end-init
-loop-end-init c = search (all_left, rules)
+pub returns-in-Some : goal.returns-in-Some
+returns-in-Some c = (last_stays is_gap c.args.s.now c.in-Some.last (search rules) (search rules) (search rules), search rules)
 
-pub returns-then-not-is_gap : goal.returns-then-not-is_gap
-returns-then-not-is_gap c = search (no_gap, rules)
-
-pub loop-end-preserved : goal.loop-end-preserved
-loop-end-preserved c = search (a_gap, rules)
-
-pub returns : goal.returns
-returns c = search (none_left, rules)
+pub returns-in-None : goal.returns-in-None
+returns-in-None c = search (none_left, rules)

@@ -1,21 +1,9 @@
--- By the test.
-use mathlib.Core.Path.{◌≡◌, sym}
-use Prim.Native.Nat.{ℕ, ◌*◌, ◌/◌, ◌≤◌, ◌<◌}
-use native.Mathlib.Omega.{arith}
-use borrow.Author.Tests.{eq-eqb, ne_eqb}
-use Rattle.records.specs.Report.{rate}
+-- By the test (Pushing).
+use Rattle.records.proofs.Pushing.{none_came, some_came}
 use Rattle.records.proofs.report.rate.Goals as goal
 
-none_came : (n all : ℕ) → all < 1 → 0 ≡ rate n all
-unfolding rate
-none_came n all l = sym (rw (eq-eqb all 0 (omega arith)))
+pub returns-then-all-eq0 : goal.returns-then-all-eq0
+returns-then-all-eq0 c = search none_came
 
-some_came : (n all : ℕ) → 1 ≤ all → 10000 * n / all ≡ rate n all
-unfolding rate
-some_came n all l = sym (rw (ne_eqb all 0 (λ e. omega (arith, e))))
-
-pub returns-then-all-lt1 : goal.returns-then-all-lt1
-returns-then-all-lt1 c = search none_came
-
-pub returns : goal.returns
-returns c = search some_came
+pub returns-else-all-eq0 : goal.returns-else-all-eq0
+returns-else-all-eq0 c = search some_came

@@ -1,32 +1,15 @@
--- `values::scan::until` meets its contract.
-use mathlib.Core.Path.{◌≡◌, ap}
-use mathlib.Core.List.{List}
-use mathlib.Core.Bool.{Bool, not}
-use Prim.Native.Nat.{ℕ, ◌+◌, ◌<◌, ◌≤◌}
-use native.Mathlib.Omega.{arith}
-use lib.ListN.{length, drop, get_or}
-use borrow.Author.Tests.{eq-eqb, ne_eqb}
+-- The place of the first byte outside the run is its length.
+use Rattle.std.proofs.Common.{ℕ, not, eqb, ◌≡◌, refl, ◌∙◌, rules, tests}
+use Rattle.std.proofs.lemmas.Iterator.{YieldsList-from_slice}
+use Rattle.std.proofs.lemmas.Iterator.Search.{position_from_yields_List}
 use Rattle.octets.specs.Scans.{run}
-use Rattle.octets.proofs.Runs.{run_at, run_stop, run_end}
-use Rattle.values.proofs.scan.until.Invariants.{other}
+use Rattle.octets.proofs.Runs.{run_le}
+use Rattle.values.proofs.Runs.{position_run}
 use Rattle.values.proofs.scan.until.Goals as goal
 
-module _ (b : ℕ) (s : List ℕ) (i : ℕ) (e : run (other b) s ≡ i + run (other b) (drop i s)) where
-  ended : length s ≤ i → {p : ℕ → Bool} → p ≡ other b → i ≡ run p s
-  ended h z = rw z (omega (arith, run_end (other b) s i h))
-
-  module _ (h : i < length s) where
-    stop : get_or s i 0 ≡ b → {p : ℕ → Bool} → p ≡ other b → i ≡ run p s
-    stop q z = rw z (omega (arith, run_stop (other b) s i h (ap not (eq-eqb (get_or s i 0) b q))))
-
-    again : {k : ℕ} → (get_or s i 0 ≡ b → ⊥) → k ≡ i + 1 → run (other b) s ≡ k + run (other b) (drop k s)
-    again n z = rw z (omega (arith, run_at (other b) s i h (ap not (ne_eqb (get_or s i 0) b n))))
-
-pub returns-then-s-size : goal.returns-then-s-size
-returns-then-s-size c = search (stop, arith)
-
-pub loop-size-preserved : goal.loop-size-preserved
-loop-size-preserved c = search (again, arith)
-
 pub returns : goal.returns
-returns c = search (ended, arith)
+returns c =
+    let s = c.args.s.now in
+    let found = position_from_yields_List (λ (x : ℕ). eqb x c.args.b) _ _ c.position.result c.position.ensures.ran (YieldsList-from_slice s cc) (λ x b q k. search (rules, tests)) in
+    let e : c.unwrap_or.result ≡ run (λ (x : ℕ). not (eqb x c.args.b)) s = c.unwrap_or.ensures ∙ position_run (λ (x : ℕ). not (eqb x c.args.b)) (λ (x : ℕ). eqb x c.args.b) (λ x. refl) s found in
+    (e, rw e (run_le (λ (x : ℕ). not (eqb x c.args.b)) s))

@@ -1,7 +1,0 @@
--- One after the other.
-use Rattle.emit.proofs.Placing.{space_then}
-use borrow.Author.Rules.{rules}
-use Rattle.cause_text.proofs.table.put_next_column.Goals as goal
-
-pub returns : goal.returns
-returns c = (search space_then, search rules)

@@ -1,7 +1,0 @@
--- One after the other.
-use Rattle.emit.proofs.Placing.{and_then}
-use borrow.Author.Rules.{rules}
-use Rattle.records.proofs.report.put_two.Goals as goal
-
-pub returns : goal.returns
-returns c = (search and_then, search rules)
