@@ -138,7 +138,8 @@ pub fn screen(message: &[u8], side: u64, table: &mut [u8; 6208], out: &mut [u8])
     Verdict::from(screening(message, side, table, out))
 }
 
-// Screens with room enough, and leaves the table as it is after it. No outgoing message is written.
+// Screens with room enough, and leaves the table as it is after it. No outgoing message is written. The steps up to the state are those of
+// `screening`: what they make borrows the slots, so that a function for both would be lent them and hand all of it on.
 fn remembering(message: &[u8], side: u64, table: &mut [u8; 6208]) -> Result<(), Refusal>
     ensures { (reason_by result ≡ (answer_of (verdict message.now side table.old)).reason) × (reason_by result ≤ 18)
         × (table.new ≡ calls_of table.old (verdict message.now side table.old)) }

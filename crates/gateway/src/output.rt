@@ -242,7 +242,7 @@ impl Outgoing<'_, '_> {
     }
 
     // The outgoing message at the front of the buffer, which has room for it.
-    pub fn write(&self, out: &mut [u8]) -> usize
+    pub(crate) fn write(&self, out: &mut [u8]) -> usize
         requires { length (sent_by self.now) ≤ length out.old }
         ensures { Wrote out.old 0 (sent_by self.now) result out.new }
     {
