@@ -1,20 +1,22 @@
 -- The places of a table, and the first place that passes a test, looked for from a place on.
 use mathlib.Core.Path.{◌≡◌, refl, sym, ap, ◌∙◌}
-use mathlib.Core.Bool.{Bool, true, false, cond}
+use mathlib.Core.Bool.{Bool, true, false, cond, ◌&&◌}
 use mathlib.Core.List.{List, [], ◌∷◌}
 use Prim.Native.Nat.{ℕ, zero, suc, ◌+◌, ◌*◌, ◌-◌, ◌/◌, ◌≤◌, ◌<◌}
 use native.Mathlib.Omega.{arith}
 use lib.Dec.{ltb}
 use lib.ListN.{length, take, drop, get_or, length-drop}
-use lib.Seq.{drop-drop, length-take-le}
-use borrow.Author.Tests.{ltb-true, ltb-false}
+use lib.Seq.{take_all, drop-drop, length-take-le}
+use borrow.Rule.Slice.PartMut.{mid_of}
+use borrow.Author.Tests.{ltb-true, ltb-false, lt-ltb, le-ltb}
 use Rattle.std.proofs.Common.{Option, Some, None, position}
 use Rattle.std.specs.Simd.{first_chunks}
 use Rattle.std.specs.List.{position_or_len}
 use Rattle.std.proofs.lemmas.List.Recursion.{is_position_or_len}
-use Rattle.sip.specs.Calls.{places, first_where}
+use Rattle.sip.specs.Calls.{Pair, places, first_where}
 use Rattle.sip.proofs.Tests.{never}
 use Rattle.sip.proofs.Calls.Places.{places_length, first_where_lem}
+use Rattle.calls.specs.Places.{says, starts_with}
 
 -- ---- the places of a table
 
@@ -33,30 +35,47 @@ position_first : (p : List ℕ → Bool) (cs : List (List ℕ)) → first_where 
 unfolding first_where
 position_first p cs = is_position_or_len (first_where p) p refl (λ c cs. let z : suc (first_where p cs) ≡ 1 + first_where p cs = omega arith in rw (← z)) cs
 
-module _ (p : List ℕ → Bool) (t : List ℕ) {r : Option ℕ} (e : r ≡ position p (places 32 t)) where
-  position_is : r ≡ cond (ltb (first_where p (places 32 t)) 32) (Some (first_where p (places 32 t))) None
-  position_is = e ∙ rw (← position_first p (places 32 t), places_length 32 t)
+module _ (p : List ℕ → Bool) (cs : List (List ℕ)) where
+  position_is : position p cs ≡ cond (ltb (first_where p cs) (length cs)) (Some (first_where p cs)) None
+  position_is = rw (← position_first p cs)
 
+  position_some : {k : ℕ} → k ≡ first_where p cs → k < length cs → Some k ≡ position p cs
+  position_some e h = sym (position_is ∙ rw (← e, lt-ltb _ _ h))
+
+  position_none : length cs ≤ first_where p cs → None ≡ position p cs
+  position_none h = sym (position_is ∙ rw (le-ltb (first_where p cs) (length cs) h))
+
+  module _ {r : Option ℕ} (e : r ≡ position p cs) where
+    first_found : {k : ℕ} → r ≡ Some k → k ≡ first_where p cs
+    first_found {k} f = go (ltb (first_where p cs) (length cs)) (sym f ∙ e ∙ position_is)
+      where
+        go : (b : Bool) → Some k ≡ cond b (Some (first_where p cs)) None → k ≡ first_where p cs
+        go true x = cc
+        go false x = never (cc)
+
+    found_before : {k : ℕ} → r ≡ Some k → k < length cs
+    found_before {k} f = go (ltb (first_where p cs) (length cs)) refl (sym f ∙ e ∙ position_is)
+      where
+        go : (b : Bool) → ltb (first_where p cs) (length cs) ≡ b → Some k ≡ cond b (Some (first_where p cs)) None → k < length cs
+        go true y x = let z : k ≡ first_where p cs = cc in omega (arith, z, ltb-true (first_where p cs) (length cs) y)
+        go false y x = never (cc)
+
+    none_found : r ≡ None → length cs ≤ first_where p cs
+    none_found f = go (ltb (first_where p cs) (length cs)) refl (sym f ∙ e ∙ position_is)
+      where
+        go : (b : Bool) → ltb (first_where p cs) (length cs) ≡ b → None ≡ cond b (Some (first_where p cs)) None → length cs ≤ first_where p cs
+        go true y x = never (cc)
+        go false y x = ltb-false (first_where p cs) (length cs) y
+
+module _ (p : List ℕ → Bool) (t : List ℕ) {r : Option ℕ} (e : r ≡ position p (places 32 t)) where
   pub found_first : {k : ℕ} → r ≡ Some k → k ≡ first_where p (places 32 t)
-  found_first {k} f = go (ltb (first_where p (places 32 t)) 32) (sym f ∙ position_is)
-    where
-      go : (b : Bool) → Some k ≡ cond b (Some (first_where p (places 32 t))) None → k ≡ first_where p (places 32 t)
-      go true x = cc
-      go false x = never (cc)
+  found_first f = first_found p (places 32 t) e f
 
   pub found_within : {k : ℕ} → r ≡ Some k → k < 32
-  found_within {k} f = go (ltb (first_where p (places 32 t)) 32) refl (sym f ∙ position_is)
-    where
-      go : (b : Bool) → ltb (first_where p (places 32 t)) 32 ≡ b → Some k ≡ cond b (Some (first_where p (places 32 t))) None → k < 32
-      go true y x = let z : k ≡ first_where p (places 32 t) = cc in omega (arith, z, ltb-true (first_where p (places 32 t)) 32 y)
-      go false y x = never (cc)
+  found_within f = omega (arith, found_before p (places 32 t) e f, places_length 32 t)
 
   pub unfound : r ≡ None → 32 ≤ first_where p (places 32 t)
-  unfound f = go (ltb (first_where p (places 32 t)) 32) refl (sym f ∙ position_is)
-    where
-      go : (b : Bool) → ltb (first_where p (places 32 t)) 32 ≡ b → None ≡ cond b (Some (first_where p (places 32 t))) None → 32 ≤ first_where p (places 32 t)
-      go true y x = never (cc)
-      go false y x = ltb-false (first_where p (places 32 t)) 32 y
+  unfound f = omega (arith, none_found p (places 32 t) e f, places_length 32 t)
 
 pub first_same : (p q : List ℕ → Bool) → ((c : List ℕ) → p c ≡ q c) → (cs : List (List ℕ)) → first_where p cs ≡ first_where q cs
 unfolding first_where
@@ -115,6 +134,50 @@ first_within p q i (c ∷ cs) = go (q c) refl (first_within p q i cs)
         ≡ cond b 0 (suc (first_where q cs)) + first_where p (drop (cond b 0 (suc (first_where q cs))) (c ∷ cs))
     go true e h = omega arith
     go false e h = rw (i c e) (omega arith)
+
+-- what a search finds that starts at the first place that passes the other test
+module _ (p q : List ℕ → Bool) (i : (c : List ℕ) → q c ≡ false → p c ≡ false) (cs : List (List ℕ)) {r : Option ℕ} (e : r ≡ position q cs) where
+  within : first_where p cs ≡ first_where q cs + first_where p (drop (first_where q cs) cs)
+  within = first_within p q i cs
+
+  none_within : r ≡ None → None ≡ position p cs
+  none_within f = position_none p cs (omega (arith, within, none_found q cs e f))
+
+  module _ {s : ℕ} (f : r ≡ Some s) {m : Option ℕ} (g : m ≡ position p (drop s cs)) where
+    from_there : first_where p cs ≡ s + first_where p (drop s cs)
+    from_there = rw (first_found q cs e f) within
+
+    none_after : m ≡ None → None ≡ position p cs
+    none_after h = position_none p cs (omega (arith, from_there, none_found p (drop s cs) g h, length-drop s cs))
+
+    some_after : {k : ℕ} → m ≡ Some k → Some (s + k) ≡ position p cs
+    some_after {k} h =
+        let z = first_found p (drop s cs) g h in
+        let l = found_before p (drop s cs) g h in
+        position_some p cs (omega (arith, from_there, z)) (omega (arith, l, length-drop s cs))
+
+-- the two tests: what a place starts with, and then all that it says, from that place on
+module _ (n b : ℕ) (p : Pair) (t : List ℕ) {r : Option ℕ} (e : r ≡ position (starts_with n b) (places 32 t)) where
+  abbrev both : List ℕ → Bool
+  both c = starts_with n b c && says p c
+
+  starts_first : (c : List ℕ) → starts_with n b c ≡ false → both c ≡ false
+  starts_first c x = rw x
+
+  pub none_starts : r ≡ None → {o : Option ℕ} → o ≡ None → o ≡ position both (places 32 t)
+  none_starts f x = x ∙ none_within both (starts_with n b) starts_first (places 32 t) e f
+
+  module _ {s : ℕ} (f : r ≡ Some s) {cs : List (List ℕ)} (ec : cs ≡ places 32 t) {j : ℕ} {m : Option ℕ} (em : m ≡ position both (mid_of j (32 - j) cs)) (q : j ≡ s) where
+    from_it : m ≡ position both (drop s (places 32 t))
+    from_it =
+        let l : length (drop s (places 32 t)) ≤ 32 - s = omega (arith, length-drop s (places 32 t), places_length 32 t) in
+        em ∙ rw (q, ec, take_all (32 - s) (drop s (places 32 t)) l)
+
+    pub none_says : m ≡ None → {o : Option ℕ} → o ≡ None → o ≡ position both (places 32 t)
+    none_says h x = x ∙ none_after both (starts_with n b) starts_first (places 32 t) e f from_it h
+
+    pub one_says : {k : ℕ} → m ≡ Some k → Some (j + k) ≡ position both (places 32 t)
+    one_says h = rw q (some_after both (starts_with n b) starts_first (places 32 t) e f from_it h)
 
 module _ (p : List ℕ → Bool) (t : List ℕ) where
   pub from_start : {k : ℕ} → k ≡ 0 → first_where p (places 32 t) ≡ k + first_where p (places (32 - k) (drop (k * 194) t))

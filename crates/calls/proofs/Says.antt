@@ -3,7 +3,7 @@ use mathlib.Core.Path.{◌≡◌, refl, sym, ap, ◌∙◌}
 use mathlib.Core.Bool.{Bool, true, false, cond, ◌&&◌, ◌||◌, and-false}
 use mathlib.Core.List.{List}
 use mathlib.Core.Option.{Option, none, some}
-use Prim.Native.Nat.{ℕ, zero, suc, ◌≤◌, ◌<◌}
+use Prim.Native.Nat.{ℕ, suc, ◌≤◌, ◌<◌}
 use native.Mathlib.Omega.{arith}
 use lib.Dec.{eqb, leb, ltb}
 use lib.ListN.{length, take, drop, get_or, length-take, length-drop}
@@ -131,10 +131,16 @@ module _ (id tag t : List ℕ) where
   pub no_id_held : {e : Bool} → e ≡ eqb (length id) 0 → e ≡ true → 32 ≡ holder (pair id tag) t
   no_id_held f y = none_holds (λ w. omega (arith, id_some (pair id tag) w, eqb-true (length id) 0 (sym f ∙ y)))
 
+  pub long_id_held : 128 < length id → 32 ≡ holder (pair id tag) t
+  long_id_held h = none_holds (λ w. omega (arith, id_long (pair id tag) w))
+
+  pub long_tag_held : 64 < length tag → 32 ≡ holder (pair id tag) t
+  long_tag_held h = none_holds (λ w. omega (arith, tag_short (pair id tag) w))
+
   pub unformed_held : {b : Bool} → b ≡ is_pair (pair id tag) → b ≡ false → 32 ≡ holder (pair id tag) t
   unformed_held f n = none_holds (λ y. never (cc))
 
-  module _ {e : Bool} (ee : e ≡ eqb (length id) 0) (ne : e ≡ false) {r : Maybe ℕ}
+  module _ (h : 1 ≤ length id) {r : Maybe ℕ}
       (er : r ≡ position (λ c. starts_with (length id) (get_or id 0 0) c && says (pair id tag) c) (places 32 t)) where
     abbrev both : List ℕ → Bool
     both c = starts_with (length id) (get_or id 0 0) c && says (pair id tag) c
@@ -142,16 +148,9 @@ module _ (id tag t : List ℕ) where
     first_is : first_where both (places 32 t) ≡ first_where (says (pair id tag)) (places 32 t)
     first_is = first_same both (says (pair id tag)) (λ c. go c (starts_with (length id) (get_or id 0 0) c) refl) (places 32 t)
       where
-        some_id : 1 ≤ length id
-        some_id = at_least (length id) (sym ee ∙ ne)
-          where
-            at_least : (n : ℕ) → eqb n 0 ≡ false → 1 ≤ n
-            at_least zero x = never (cc)
-            at_least (suc n) x = omega arith
-
         go : (c : List ℕ) (b : Bool) → starts_with (length id) (get_or id 0 0) c ≡ b → (b && says (pair id tag) c) ≡ says (pair id tag) c
         go c true x = refl
-        go c false x = sym (says_starts id tag some_id c x)
+        go c false x = sym (says_starts id tag h c x)
 
     module _ (l : length t ≡ 6208) where
       pub unsaid_held : r ≡ None → 32 ≡ holder (pair id tag) t
@@ -197,6 +196,10 @@ module _ (id tag t : List ℕ) (l : length t ≡ 6208) where
 
   held_by : {k : ℕ} → k ≡ holder (pair id tag) t → ltb k 32 ≡ is_held (pair id tag) t
   held_by e = by_held e (λ h n. ltb n 32 ≡ h) refl (λ w n f g. lt-ltb n 32 g)
+
+  -- the same by the number of the place
+  pub held_below : (o : Maybe ℕ) → unwrap_or o 32 ≡ holder (pair id tag) t → {k : ℕ} → k ≡ unwrap_or o 32 → ltb k 32 ≡ is_held (pair id tag) t
+  held_below o e q = held_by (q ∙ e)
 
   pub end_known : {k : ℕ} → k ≡ holder (pair id tag) t → k < 32 → 0 ≡ ending (pair id tag) t
   unfolding ending

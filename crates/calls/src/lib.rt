@@ -57,23 +57,51 @@ fn starts_with(place: &Place, size: usize, first: u8) -> bool
     usize::from(place[0]) == size && place[1] == first
 }
 
-// The first place that says the pair. Most places differ in the length or the first byte of the Call-ID.
+// The first place that says this length of a Call-ID and this first byte of it.
+fn likely(table: &[u8; 6208], size: usize, first: u8) -> Option<usize>
+    ensures { (result ≡ position (starts_with size first) (places 32 table.now)) × IfSome result (λ k. k < 32) }
+{
+    places(table)
+        .iter()
+        .position(|place| starts_with(place, size, first))
+}
+
+// The first of these places that says the pair.
+fn first_of(places: &[Place], pair: Pair, first: u8) -> Option<usize>
+    ensures { result ≡ position (λ c. starts_with (length pair.entry.call_id.now) first c && says (said pair.entry) c) places.now }
+{
+    let size = pair.call_id.len();
+    places.iter().position(|place| starts_with(place, size, first) && pair.is_at(place))
+}
+
+// The first place that says the pair. Most places differ in the length or the first byte of the Call-ID: the places before the first that does
+// not are passed in a loop of their own, so short that the compiler unrolls it.
 fn place_of(table: &[u8; 6208], pair: Pair, first: u8) -> Option<usize>
     ensures { result ≡ position (λ c. starts_with (length pair.entry.call_id.now) first c && says (said pair.entry) c) (places 32 table.now) }
 {
-    let size = pair.call_id.len();
-    places(table).iter().position(|place| starts_with(place, size, first) && pair.is_at(place))
+    let start = likely(table, pair.call_id.len(), first)?;
+    let more = first_of(&places(table)[start..], pair, first)?;
+    Some(start + more)
 }
 
 // The first place that holds the pair. Its form is looked at only where its bytes are found.
+fn formed_place(table: &[u8; 6208], pair: Pair) -> Option<usize>
+    requires { 1 ≤ length pair.call_id.now }
+    ensures { (unwrap_or result 32 ≡ holder (said pair.entry) table.now) × IfSome result (λ k. k < 32) }
+{
+    let k = place_of(table, pair, pair.call_id[0])?;
+    if pair.is_formed() { Some(k) } else { None }
+}
+
+// The same for any pair. Where no place has room for the texts, none is looked at; inline, so that this costs no call.
+#[inline(always)]
 fn holder(table: &[u8; 6208], pair: Pair) -> Option<usize>
     ensures { (unwrap_or result 32 ≡ holder (said pair.entry) table.now) × IfSome result (λ k. k < 32) }
 {
-    if pair.call_id.is_empty() {
+    if pair.call_id.is_empty() || pair.call_id.len() > 128 || pair.tag.len() > 64 {
         return None;
     }
-    let k = place_of(table, pair, pair.call_id[0])?;
-    if pair.is_formed() { Some(k) } else { None }
+    formed_place(table, pair)
 }
 
 // The pair is held.
@@ -126,7 +154,8 @@ fn free(table: &mut [u8; 6208], k: usize)
     table[k * 194..k * 194 + 194].fill(0);
 }
 
-// Leaves every place free that holds the pair, from the first on.
+// Leaves every place free that holds the pair, from the first on. Not inline: within `end` it made an end that finds nothing longer.
+#[inline(never)]
 fn clear(table: &mut [u8; 6208], first: usize, pair: Pair)
     requires { (is_pair (said pair) ≡ true) × (first ≡ first_where (says (said pair)) (places 32 table.old)) × (first < 32) }
     ensures { table.new ≡ removed (said pair.entry) table.old }

@@ -44,6 +44,7 @@ impl<'a> Pair<'a> {
     }
 
     // The bytes of both are the same.
+    #[inline(always)]
     #[tactic(auto, using(crate::proofs::Texts::texts_same), unfolding(sip::specs::Calls::same_pair))]
     fn is_same(self, other: Pair) -> bool
         ensures { result ≡ same_pair (said self.entry) (said other.entry) }

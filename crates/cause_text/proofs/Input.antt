@@ -1,14 +1,14 @@
 -- What stands on standard input: the line by its last byte, what is printed by the line.
-use mathlib.Core.Path.{◌≡◌, refl}
+use mathlib.Core.Path.{◌≡◌, refl, sym, ◌∙◌}
 use mathlib.Core.List.{List, [], ◌∷◌}
 use Prim.Native.Nat.{ℕ, suc, ◌+◌, ◌-◌, ◌≤◌, ◌<◌}
 use native.Mathlib.Omega.{arith}
 use lib.ListN.{length, take, get_or}
-use borrow.Author.Tests.{ne_eqb}
+use borrow.Author.Tests.{ne_eqb, eqb-true}
 use lib.Dec.{eqb}
 use lib.Pointwise.{pointwise}
 use denote.Bor.{Bor}
-use mathlib.Core.Bool.{true, false, and-true}
+use mathlib.Core.Bool.{Bool, true, false, and-true}
 use Rattle.std.specs.Prelude.{Option, Some, None, MatchOption, unwrap_or}
 use lib.ListN.{drop}
 use Rattle.emit.specs.Put.{Wrote}
@@ -42,14 +42,18 @@ unfolding without_lf
 last_taken s None h = rw (← last_byte s.now, h)
 last_taken s (Some x) h = rw (← last_byte s.now, h.0) h.1
 
-pub some_length : (s : List ℕ) → eqb (length s) 0 ≡ false → 1 ≤ length s
-some_length [] h = cc
-some_length (b ∷ s) h = omega arith
+-- as `is_empty` says of any text
+pub some_length : (s : List ℕ) {b : Bool} → b ≡ eqb (length s) 0 → b ≡ false → 1 ≤ length s
+some_length [] e h = cc
+some_length (b ∷ s) e h = omega arith
 
-pub no_bytes : (s : List ℕ) → eqb (length s) 0 ≡ true → table ≡ printed s
+pub no_length : (s : List ℕ) {b : Bool} → b ≡ eqb (length s) 0 → b ≡ true → length s ≡ 0
+no_length s e h = eqb-true (length s) 0 (sym e ∙ h)
+
+pub no_bytes : (s : List ℕ) → length s < 1 → table ≡ printed s
 unfolding printed
 no_bytes [] h = refl
-no_bytes (b ∷ s) h = let e : eqb (suc (length s)) 0 ≡ false = ne_eqb (suc (length s)) 0 (λ z. omega (arith, z)) in cc
+no_bytes (b ∷ s) h = absurd (omega arith)
 
 pub some_bytes : (s : List ℕ) → 1 ≤ length s → printed s ≡ line_text (number_of (without_lf s))
 unfolding printed

@@ -131,10 +131,14 @@ fn end_row(cause: u64) -> Option<StatusRow>
     listed_row(class_end(cause)?)
 }
 
-// Cause (Q.850) to status (SIP). Over 127 no cause is listed and no class ends.
+// Cause (Q.850) to status (SIP). Over 127 no cause is listed and no class ends, so that none is looked for: both searches would be twice the work.
+#[tactic(auto, unfolding(crate::specs::Causes::status))]
 pub fn status_of_cause(cause: u64) -> Result<StatusRow, Refusal>
     ensures { status_answer result ≡ status cause }
 {
+    if 127 < cause {
+        return Err(Refusal::Cause);
+    }
     listed_row(cause)
         .or_else(|| end_row(cause))
         .ok_or(Refusal::Cause)

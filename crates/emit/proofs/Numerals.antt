@@ -119,9 +119,9 @@ digits_length (suc k) n (suc j) p h =
     more_length k n l ∙ rw (digits_length k (n / 10) j (inl (omega arith)) (omega arith)) (omega arith)
 
 -- as `checked_ilog10` says
-pub logged_length : (n : ℕ) (o : Option ℕ) → IfNone o (n ≡ 0) → IfSome o (λ j. 10 ^ j ≤ n) → IfSome o (λ j. n < 10 * 10 ^ j) → IfSome o (λ j. j < 20) → unwrap_or o 0 + 1 ≡ length (whole_numeral n)
-logged_length n None z l h b = sym (digits_length 20 n 0 (inr (z, refl)) (omega arith))
-logged_length n (Some j) z l h b = sym (digits_length 20 n j (inl l) h ∙ omega arith)
+pub logged_length : (n : ℕ) {m : ℕ} (o : Option ℕ) → IfNone o (m ≡ 0) → IfSome o (λ j. 10 ^ j ≤ m) → IfSome o (λ j. m < 10 * 10 ^ j) → IfSome o (λ j. j < 20) → m ≡ n → {r : ℕ} → r ≡ unwrap_or o 0 + 1 → r ≡ length (whole_numeral n)
+logged_length n None z l h b e q = rw (q, ← e) (sym (digits_length 20 _ 0 (inr (z, refl)) (omega arith)))
+logged_length n (Some j) z l h b e q = rw (q, ← e) (sym (digits_length 20 _ j (inl l) h ∙ omega arith))
 
 module _ (n : ℕ) where
   pub len1 : n < 10 → 1 ≡ length (numeral n)

@@ -1,17 +1,20 @@
 -- Pieces pushed one after the other are one piece, whether there is room or not.
 use mathlib.Core.Path.{◌≡◌, refl, sym, ◌∙◌}
-use mathlib.Core.Bool.{Bool, true, false}
-use mathlib.Core.List.{List, [], ◌++◌, append_assoc, append-nil}
-use Prim.Native.Nat.{ℕ, ◌+◌, ◌-◌, ◌≤◌, ◌<◌}
+use mathlib.Core.Bool.{Bool, true, false, cond}
+use mathlib.Core.List.{List, [], ◌∷◌, ◌++◌, append_assoc, append-nil}
+use Prim.Native.Nat.{ℕ, ◌+◌, ◌-◌, ◌≤◌, ◌<◌, ◌/◌, ◌%◌}
 use native.Mathlib.Omega.{arith}
-use lib.Dec.{leb}
+use lib.Dec.{leb, ltb}
 use lib.ListN.{length, take, drop, length-append}
 use lib.Seq.{take-append_seam, length-take-le}
 use borrow.Author.Tests.{le-leb, lt-leb, leb-true, leb-false}
-use Rattle.std.specs.Prelude.{Option, None, Some, option_map}
+use Rattle.std.specs.Prelude.{Option, None, Some, option_map, IfSome}
+use Rattle.std.specs.Bool.{then_some}
+use Rattle.std.proofs.lemmas.Bool.{lt-ltb, le-ltb}
+use Rattle.sip.specs.Output.{digits, whole_numeral}
 use Rattle.emit.specs.Put.{Wrote}
 use Rattle.emit.specs.Texts.{pushed}
-use Rattle.emit.proofs.Laws.{wrote_room}
+use Rattle.emit.proofs.Laws.{next_full, wrote_room}
 
 module _ (n : ℕ) (t s : List ℕ) where
   pub pushed_room : length s ≤ n - length t → pushed n (Some t) s ≡ Some (t ++ s)
@@ -88,3 +91,35 @@ module _ {d : List ℕ} {at : ℕ} {s : List ℕ} {r : ℕ} {d' : List ℕ} (w :
 
 pub no_room : (d : List ℕ) (at n : ℕ) (s : List ℕ) → length d ≡ n → at ≤ n → n < at + length s → (o : Option (List ℕ)) → o ≡ Some (take at d) → None ≡ pushed n o s
 no_room d at n s l k h o e = rw (e, pushed_full n (take at d) s (omega (arith, length-take-le at d (omega arith))))
+
+-- a number has a digit
+one_digit : (m : ℕ) → 1 ≤ length (whole_numeral m)
+unfolding digits
+one_digit m = go (ltb m 10)
+  where
+    go : (b : Bool) → 1 ≤ length (cond b ((48 + m) ∷ []) (digits 19 (m / 10) ++ ((48 + m % 10) ∷ [])))
+    go true = omega arith
+    go false = rw length-append (omega arith)
+
+-- a number is put behind the first bytes of d: the place stays only where there is no room for it
+module _ (m : ℕ) {d : List ℕ} {at : ℕ} {r : ℕ} {d' : List ℕ} (w : Wrote d at (whole_numeral m) r d') {n : ℕ} (l : length d ≡ n) (k : at ≤ n)
+    {o : Option ℕ} (e : o ≡ then_some (ltb at r) r) where
+  in_room : at + length (whole_numeral m) ≤ n → o ≡ Some r
+  in_room h = e ∙ rw (lt-ltb at r (omega (arith, one_digit m, (wrote_room w (fits w l h)).0)))
+
+  nowhere : n < at + length (whole_numeral m) → o ≡ None
+  nowhere h = let z : r ≡ at = w.next ∙ next_full d at (whole_numeral m) (omega arith) in e ∙ rw (le-ltb at r (omega arith))
+
+  pub number_end : IfSome o (λ j. j ≤ n)
+  number_end = go (leb (at + length (whole_numeral m)) n) refl
+    where
+      go : (b : Bool) → leb (at + length (whole_numeral m)) n ≡ b → IfSome o (λ j. j ≤ n)
+      go true q = let h = leb-true (at + length (whole_numeral m)) n q in rw (in_room h) (copied_end w l h)
+      go false q = rw (nowhere (leb-false (at + length (whole_numeral m)) n q)) tt
+
+  pub number_pushed : (v : Option (List ℕ)) → v ≡ Some (take at d) → option_map (λ j. take j d') o ≡ pushed n v (whole_numeral m)
+  number_pushed v f = go (leb (at + length (whole_numeral m)) n) refl
+    where
+      go : (b : Bool) → leb (at + length (whole_numeral m)) n ≡ b → option_map (λ j. take j d') o ≡ pushed n v (whole_numeral m)
+      go true q = let h = leb-true (at + length (whole_numeral m)) n q in rw (in_room h) (copied w l h v f)
+      go false q = let h = leb-false (at + length (whole_numeral m)) n q in rw (nowhere h) (no_room d at n (whole_numeral m) l k h v f)

@@ -47,9 +47,12 @@ impl<const N: usize> Text<N> {
     pub fn push_number(&mut self, n: u64)
         ensures { self.new ≡ pushed N self.old (whole_numeral n) }
     {
-        let mut digits = [0u8; 20];
-        let size = crate::put_whole_number(&mut digits, 0, n);
-        self.push(octets::first(&digits, size));
+        // At its place at once: by way of an array of its own a report takes up to twice the work. A number has a digit, so that the place stays only
+        // where there is no room.
+        if let Some(at) = self.len {
+            let next = crate::put_whole_number(&mut self.bytes, at, n);
+            self.len = (at < next).then_some(next);
+        }
     }
 
     // A space, and a number.

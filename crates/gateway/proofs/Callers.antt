@@ -101,9 +101,9 @@ module _ (m t : List ℕ) (g : is_global t ≡ true) {slots : List ℕ} {j : Jud
       read_within = rw (is_read hq) (omega (arith, reading_within m 15 k.field, p.short))
 
       pub caller_said : {v : List ℕ} → v ≡ take q.len (drop q.start m) → {u : ℕ} → u ≡ unfolded_at k.start 0 v
-          → Calling m t (Some (Message (record { start = q.start + u; len = k.len })))
+          → {s l : ℕ} → s ≡ q.start + u → l ≡ k.len → Calling m t (Some (Message (record { start = s; len = l })))
       unfolding placed_in
-      caller_said hv hu =
+      caller_said hv hu hs hl =
           let z : record { from_trunk = false; start = q.start + unfolded_at k.start 0 (part q m); len = k.len } ≡ placed_in m at k
           = rw (is_read hq) in
           let w : Calling m t (Some (Message (record { start = q.start + unfolded_at k.start 0 (part q m); len = k.len })))
@@ -111,7 +111,7 @@ module _ (m t : List ℕ) (g : is_global t ≡ true) {slots : List ℕ} {j : Jud
             stands = z ∙ sym stands_at;
             within = let l : q.start + unfolded_at k.start 0 (part q m) + k.len ≤ length m = rw (is_read hq) lies_within in l;
           } in
-          rw (hu, hv) w
+          rw (hs, hl, hu, hv) w
 
 -- ---- the part itself
 

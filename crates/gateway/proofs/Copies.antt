@@ -33,10 +33,11 @@ module _ (size : ℕ) (d : List ℕ) (at : ℕ) (s : List ℕ) (h : at + length 
         → o' ≡ put_at d at (take k s)
     word_more i a x y = rw y (added j (front j a) (omega arith) j o e (omega arith) (omega arith) x)
 
-    pub word_last : size ≤ length s → j ≤ length s → length s - size ≤ j → w ≡ take size (take (length s - (length s - size)) (drop (length s - size) s))
+    pub word_last : size ≤ length s → j ≤ length s → length s - size ≤ j → {m : ℕ} → w ≡ take size (take (length s - m) (drop m s)) → m ≡ length s - size
         → Wrote o (at + (length s - size)) w r o' → Wrote d at s r o'
-    word_last g l i a x =
+    word_last g l i b q x =
         let last : ℕ = length s - size in
+        let a : w ≡ take size (take (length s - last) (drop last s)) = rw q at b in
         let n : length w ≡ size = width last (front last a) (omega arith) in
         let y : length o ≡ length d = ap length e ∙ length_put d at (take j s) in
         record {

@@ -82,6 +82,7 @@ impl<'a> Accepted<'a> {
     }
 
     // Of a request for which the table is asked.
+    #[tactic(auto, unfolding(crate::specs::CallStates::state_in, crate::specs::CallStates::new_state))]
     fn state_in(&self, table: &[u8; 6208]) -> Result<CallState, Refusal>
         ensures { result ≡ state_of self.now table.now }
     {

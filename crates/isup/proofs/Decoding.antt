@@ -24,7 +24,7 @@ use Rattle.isup.specs.declared.Caller.{Caller as Found}
 use Rattle.isup.specs.declared.NoCaller.{NoCaller}
 use Rattle.isup.specs.declared.NoCaller.TheVariants.{Field}
 use Rattle.std.specs.List.{list_all}
-use Rattle.std.specs.Prelude.{Result, Ok, Err, IsErr, is_ok, OnOk}
+use Rattle.std.specs.Prelude.{Result, Ok, Err, IsErr, is_ok}
 use Rattle.isup.proofs.Numbers.{global_plus}
 use Rattle.isup.proofs.Signals.{bit_most, digits_length, pairs_even, pairs_odd}
 
@@ -244,9 +244,6 @@ module _ (prefix s : List ℕ) (i : ℕ) {items : List ℕ} (e : items ≡ 43 �
 
 pub number_begin : (prefix : List ℕ) {a b c : List ℕ} → a ≡ [] → b ≡ a ++ 43 ∷ [] → c ≡ b ++ prefix → c ≡ 43 ∷ (prefix ++ [])
 number_begin prefix p q r = r ∙ rw (q, p, append-nil)
-
-pub on_ok : {T E P : Type 0} (r : Result T E) {x : T} → r ≡ Ok x → OnOk r P → P
-on_ok r e h = rw e at h
 
 -- ---- the caller
 

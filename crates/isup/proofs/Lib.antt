@@ -10,3 +10,4 @@ pub mod Producing
 pub mod Promised
 pub mod Every
 pub mod Computed
+pub mod Filled

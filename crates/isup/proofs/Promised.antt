@@ -22,7 +22,7 @@ use Rattle.isup.specs.Answers.{Caller}
 use Rattle.isup.specs.Fields.{Fields, octets, fields_of, filler_is_zero}
 use Rattle.judgement.specs.Judged.{judged_message}
 use Rattle.judgement.specs.declared.Judged.{Judged}
-use Rattle.judgement.specs.declared.Refusal.{Refusal}
+use Rattle.judgement.specs.declared.Refused.{Refused}
 use Rattle.std.specs.Prelude.{Result, Ok, Err}
 use Rattle.judgement.proofs.Messages.{judges}
 use Rattle.isup.specs.Forward.{is_code, is_national, sent, fields_for, encoded, padded, no_parameter, is_initial_invite, calling_of}
@@ -79,7 +79,7 @@ always_number m r a i =
 never_zero : (m : List ℕ) (a : Answer) → judgement m ≡ refused a → a.reason ≡ 0 → ⊥
 never_zero m a e z = go (judged_message m) refl
   where
-    go : (r : Result Judged Refusal) → judged_message m ≡ r → ⊥
+    go : (r : Result Judged Refused) → judged_message m ≡ r → ⊥
     go (Ok j) p = not_both (sym e ∙ (judges m {r = Ok j} (sym p) refl).is_accepted)
     go (Err r) p =
         let k = judges m {r = Err r} (sym p) refl in

@@ -4,5 +4,6 @@ pub mod Backward
 pub mod Promises
 pub mod Cases
 pub mod Steps
+pub mod Held
 pub mod Answers
 pub mod Views

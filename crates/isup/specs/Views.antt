@@ -1,9 +1,9 @@
 -- The answers and the fields as the code has them, and what they stand for.
 use Rattle.std.specs.Prelude.{Bool, true, false, ℕ, Result, Ok, Err}
-use Rattle.arrayvec.specs.ArrayVec.{ArrayVec}
 use Rattle.causes.specs.Answers.{refusal_number as cause_refusal}
 use Rattle.causes.specs.declared.Refusal.{Refusal as CauseRefusal}
 use Rattle.judgement.specs.declared.Refusal.{Refusal}
+use Rattle.isup.specs.declared.bytes.ShortBytes.{ShortBytes}
 use Rattle.isup.specs.declared.Caller.{Caller}
 use Rattle.isup.specs.declared.NoCaller.{NoCaller}
 use Rattle.isup.specs.declared.NoCaller.TheVariants.{BadCode, CutShort, Field, Filler, Digit, Number}
@@ -16,6 +16,7 @@ use Rattle.isup.specs.declared.fields.Presentation.TheVariants.{Allowed, Restric
 use Rattle.isup.specs.Answers.{Parameter, Caller as CallerNumbers, Status}
 use Rattle.isup.specs.Forward.{no_parameter, parameter_of}
 use Rattle.isup.specs.Backward.{no_caller, caller_with}
+use Rattle.isup.specs.Held.{held}
 
 -- ---- the parameter
 
@@ -30,8 +31,8 @@ screens_refusal CodeRefused = own 41
 abbrev no_parameter_for : Refusal → Parameter
 no_parameter_for r = no_parameter r.reason r.reply r.detail r.missing
 
-abbrev pub parameter_in : Result (ArrayVec ℕ) NoParameter → Parameter
-parameter_in (Ok octets) = parameter_of octets.items
+abbrev pub parameter_in : Result (ShortBytes 10) NoParameter → Parameter
+parameter_in (Ok octets) = parameter_of (held octets)
 parameter_in (Err e) = no_parameter_for (screens_refusal e)
 
 -- ---- the caller
@@ -45,7 +46,7 @@ refusal_number Digit = 46
 refusal_number Number = 47
 
 abbrev pub caller_in : Result Caller NoCaller → CallerNumbers
-caller_in (Ok c) = caller_with c.id c.number.items
+caller_in (Ok c) = caller_with c.id (held c.number)
 caller_in (Err e) = no_caller (refusal_number e)
 
 -- ---- the status of a cause

@@ -4,6 +4,7 @@ ghost use Rattle.std.specs.List.{list_all};
 ghost use Rattle.isup.specs.Fields.{signal_count, fields_of, filler_is_zero};
 ghost use Rattle.isup.specs.Forward.{is_code};
 ghost use Rattle.isup.specs.Backward.{is_cut, is_named, number_from, caller_for, decoded};
+ghost use Rattle.isup.specs.Held.{held};
 ghost use Rattle.isup.specs.Steps.{is_pair, digits, digit_at};
 ghost use Rattle.isup.specs.Views.{nature_number, is_national_nature, presentation_octet, caller_in};
 
@@ -74,11 +75,11 @@ fn digit_at(s: &[u8], i: usize) -> u8
 // The number: `+`, the country code or nothing, and the first n digits of the address octets.
 fn number_of(prefix: &[u8], s: &[u8], n: usize) -> Number
     requires { (1 + length prefix.now + n ≤ 16) × (n ≤ 2 * length s.now) }
-    ensures { result.items ≡ 43 ∷ (prefix.now ++ digits n s.now) }
+    ensures { held result ≡ 43 ∷ (prefix.now ++ digits n s.now) }
 {
     let mut number = Number::new();
     number.push(b'+');
-    number.try_extend_from_slice(prefix).unwrap();
+    number.append(prefix);
     for i in 0..n {
         number.push(digit_at(s, i));
     }
@@ -95,7 +96,7 @@ fn signal_count(s: &[u8]) -> usize
 
 // The caller of a number, if it is one of the profile.
 fn caller_with(id: bool, number: Number) -> Result<Caller, NoCaller>
-    ensures { caller_in result ≡ caller_for id number.items }
+    ensures { caller_in result ≡ caller_for id (held number) }
 {
     if !values::is_global(number.as_slice()) {
         return Err(NoCaller::Number);

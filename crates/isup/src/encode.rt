@@ -5,6 +5,7 @@ ghost use Rattle.octets.specs.Scans.{all};
 ghost use Rattle.sip.specs.Values.{is_global};
 ghost use Rattle.isup.specs.Fields.{packed};
 ghost use Rattle.isup.specs.Forward.{is_national, sent, signal, encoded};
+ghost use Rattle.isup.specs.Held.{held};
 ghost use Rattle.isup.specs.Steps.{second_for};
 ghost use Rattle.isup.specs.Views.{nature_number, is_national_nature};
 
@@ -72,8 +73,8 @@ fn octet_of(pair: &[u8]) -> u8
 
 // The address signals of the digits, two to an octet.
 fn push_pairs(octets: &mut Parameter, digits: &[u8])
-    requires { (all is_digit digits.now ≡ true) × (length digits.now ≤ 15) × (length octets.old.items ≡ 2) }
-    ensures { octets.new.items ≡ octets.old.items ++ packed (map signal digits.now) }
+    requires { (all is_digit digits.now ≡ true) × (length digits.now ≤ 15) × (length (held octets.old) ≡ 2) }
+    ensures { held octets.new ≡ held octets.old ++ packed (map signal digits.now) }
 {
     for pair in digits.chunks(2) {
         octets.push(octet_of(pair));
@@ -83,7 +84,7 @@ fn push_pairs(octets: &mut Parameter, digits: &[u8])
 // The parameter of a number.
 pub(crate) fn encode(code: &[u8], home: bool, withheld: bool, number: &[u8]) -> Parameter
     requires { is_global number.now ≡ true }
-    ensures { result.items ≡ encoded code.now home withheld number.now }
+    ensures { held result ≡ encoded code.now home withheld number.now }
 {
     let digits = octets::rest(number, 1);
     let nature = nature_of(code, home, digits);

@@ -7,20 +7,21 @@ ghost use Rattle.isup.specs.Backward.{decoded, status_for};
 ghost use Rattle.isup.specs.declared.NoParameter.TheVariants.{Screen};
 ghost use Rattle.isup.specs.Views.{refusal_number, screens_refusal, parameter_in, caller_in, status_in};
 
-use arrayvec::ArrayVec;
-use judgement::Refusal;
+pub use bytes::ShortBytes;
+use judgement::{Refusal, Refused};
 
 mod backward;
+mod bytes;
 mod code;
 mod encode;
 mod fields;
 mod forward;
 
 // The octets of a parameter, those of its name and length left out.
-pub type Parameter = ArrayVec<u8, 10>;
+pub type Parameter = ShortBytes<10>;
 
 // A number with its `+`.
-pub type Number = ArrayVec<u8, 16>;
+pub type Number = ShortBytes<16>;
 
 // Why a message gives no parameter.
 #[derive(Clone, Copy)]
@@ -58,8 +59,17 @@ impl From<Refusal> for NoParameter {
     }
 }
 
+// What a refused message says otherwise is not asked for.
+impl From<Refused> for NoParameter {
+    ghost from_gives = { λ refused why. why ≡ Screen refused.refusal };
+
+    fn from(refused: Refused) -> NoParameter {
+        NoParameter::from(refused.refusal)
+    }
+}
+
 // What a parameter gives: whether a Privacy `id` goes with the number, and the number.
-#[derive(Drop)]
+#[derive(Clone, Copy)]
 pub struct Caller {
     pub id: bool,
     pub number: Number,
@@ -108,6 +118,7 @@ pub fn caller_of(bytes: &[u8], code: &[u8]) -> Result<Caller, NoCaller>
 }
 
 // The status of a reply for a cause from the trunk.
+#[tactic(auto, unfolding(crate::specs::Backward::status_for))]
 pub fn status_of(cause: u64) -> Result<u64, causes::Refusal>
     ensures { status_in result ≡ status_for cause }
 {

@@ -12,6 +12,7 @@ use Rattle.sip.specs.Profile.{response_column}
 use Rattle.lines.specs.Index.{index}
 use Rattle.std.specs.Prelude.{Option as RustOption, Some, None, Result, Ok, Err, IfOk}
 use Rattle.judgement.specs.declared.Refusal.{Refusal}
+use Rattle.judgement.specs.declared.Refused.{Refused}
 use Rattle.judgement.specs.declared.Judged.{Judged}
 use Rattle.judgement.specs.declared.Tally.{Tally}
 use Rattle.judgement.specs.Sets.{column_at}
@@ -21,10 +22,10 @@ use Rattle.judgement.specs.Judged.{judged_lines, judged_message}
 
 module _ (m : List ℕ) where
   -- an answer that accepts has that count
-  abbrev Counts : Result Judged Refusal → Type 0
+  abbrev Counts : Result Judged Refused → Type 0
   Counts r = IfOk r (λ (j : Judged). j.count ≡ (index m).head.count)
 
-  either : (b : Bool) (x y : Result Judged Refusal) → Counts x → Counts y → Counts (cond b x y)
+  either : (b : Bool) (x y : Result Judged Refused) → Counts x → Counts y → Counts (cond b x y)
   either true x y h k = h
   either false x y h k = k
 

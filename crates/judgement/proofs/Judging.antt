@@ -16,6 +16,7 @@ use Rattle.sip.specs.Refusals.{judged, judgement}
 use Rattle.sip.proofs.Spans.{StartParts}
 use Rattle.lines.specs.Index.{Head, method_length, uri_length}
 use Rattle.judgement.specs.declared.Refusal.{Refusal}
+use Rattle.judgement.specs.declared.Refused.{Refused}
 use Rattle.judgement.specs.declared.Judged.{Judged}
 use Rattle.judgement.specs.Sets.{kept_set}
 use Rattle.judgement.specs.Entries.{Within, entries_from}
@@ -102,7 +103,7 @@ module _ {m slots : List ℕ} {x : Head} {l : Start} (r : Reads m slots x l) whe
     judged_is = read_is ∙ rw kept_is
 
     module _ (method : List ℕ) (o : Option Answer) where
-      abbrev answer : Option Answer → Result Judged Refusal
+      abbrev answer : Option Answer → Result Judged Refused
       answer p = judged_from x (silent l) (before_version l) (kept_set c) (checked p) (tallied method no_tally es) (length left)
 
       refuses_is : (a : Answer) → judged l es left ≡ refused (replied l a) → Numbered (some a) → Judges m slots (answer (some a))

@@ -15,6 +15,7 @@ use Rattle.sip.proofs.Change.{everything}
 use Rattle.lines.specs.Index.{method_of, HasMethod, reason_of, Head, method_length, uri_length, index_of, index}
 use Rattle.lines.proofs.Within.{slots_within}
 use Rattle.judgement.specs.declared.Refusal.{Refusal}
+use Rattle.judgement.specs.declared.Refused.{Refused}
 use Rattle.judgement.specs.declared.Judged.{Judged}
 use Rattle.lines.specs.declared.StartLine.{StartLine}
 use Rattle.lines.specs.declared.StartLine.TheVariants.{Request, Status}
@@ -22,7 +23,7 @@ use Rattle.lines.specs.declared.Unread.{Unread}
 use Rattle.lines.specs.declared.Unread.TheVariants.{TooLong, NoStartLine, BadFields, TooManyFields}
 use Rattle.sip.proofs.Tests.{never}
 use Rattle.judgement.specs.Entries.{Within, has_method}
-use Rattle.judgement.specs.Judged.{bare, judged_lines, judged_message}
+use Rattle.judgement.specs.Judged.{bare_refused, judged_lines, judged_message}
 use Rattle.judgement.specs.Judges.{Judges}
 use Rattle.judgement.proofs.Parts.{parts}
 use Rattle.judgement.proofs.Judging.{Reads}
@@ -119,7 +120,7 @@ module _ (m : List ℕ) where
   lines_judge (request l) r = request_judges l r
   lines_judge (response l) r = response_judges l r
 
-  module _ {r : Result Judged Refusal} (e : r ≡ judged_message m) where
+  module _ {r : Result Judged Refused} (e : r ≡ judged_message m) where
     unread_judges : (n : (index m).head.reason ≡ 0 → ⊥) → Judges m (index m).slots r
     unfolding judged_message
     unread_judges n =
@@ -139,7 +140,7 @@ module _ (m : List ℕ) where
   -- ---- what the code answers
 
   module _ {h : Head} (e : h ≡ (index m).head) where
-    pub unread_judged : (h.reason ≡ 0 → ⊥) → {x : Refusal} → x ≡ bare h.reason 0 → Err x ≡ judged_message m
+    pub unread_judged : (h.reason ≡ 0 → ⊥) → {x : Refused} → x ≡ bare_refused h.reason 0 → Err x ≡ judged_message m
     unfolding judged_message
     unread_judged n hx = rw (hx, e, ne_eqb (index m).head.reason 0 (λ z. n (ap (λ (y : Head). y.reason) e ∙ z)))
 
@@ -147,7 +148,7 @@ module _ (m : List ℕ) where
       head_read : (index m).head.reason ≡ 0
       head_read = sym (ap (λ (y : Head). y.reason) e) ∙ z
 
-      pub read_judged : {ns : List ℕ} → ns ≡ (index m).slots → {r : Result Judged Refusal} → r ≡ judged_lines m ns h → r ≡ judged_message m
+      pub read_judged : {ns : List ℕ} → ns ≡ (index m).slots → {r : Result Judged Refused} → r ≡ judged_lines m ns h → r ≡ judged_message m
       unfolding judged_message
       read_judged hs hr = rw (hr, hs, e, eq-eqb (index m).head.reason 0 head_read)
 

@@ -22,7 +22,7 @@ use Rattle.judgement.specs.declared.Tally.{Tally}
 use Rattle.judgement.specs.Sets.{has, kept_set}
 use Rattle.judgement.specs.Entries.{first_slot}
 use Rattle.judgement.specs.Tallies.{no_tally, tallied}
-use Rattle.judgement.specs.Judged.{shared, bare, status_at, method_at, response_by, judged_by, response_as, response_to, response_lines, judged_lines}
+use Rattle.judgement.specs.Judged.{shared, bare_refused, status_at, method_at, response_by, judged_by, response_as, response_to, response_lines, judged_lines}
 use Rattle.judgement.specs.Judges.{Judges}
 use Rattle.judgement.proofs.Members.{kept_has}
 use Rattle.judgement.proofs.Decisions.{shared_numbered}
@@ -114,6 +114,6 @@ module _ {m slots : List ℕ} {x : Head} (l : StatusLine) (r : Reads m slots x (
   response_judges = rw (eq-eqb x.method 0 r.method_long, status_is, named_is) (go (within 100 699 (status_of l)) refl)
     where
       go : (b : Bool) → within 100 699 (status_of l) ≡ b
-          → Judges m slots (cond b (response_as m slots x named profile) (Err (bare 17 0)))
+          → Judges m slots (cond b (response_as m slots x named profile) (Err (bare_refused 17 0)))
       go true q = response_as_lem q profile refl
       go false q = record { has_reason = λ z. omega arith; is_refused = outside q }

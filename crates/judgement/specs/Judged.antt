@@ -7,6 +7,7 @@ use Rattle.octets.specs.Scans.{number, same}
 use Rattle.sip.specs.declared.Column.{Column}
 use Rattle.sip.specs.declared.Column.TheVariants.{Invite, Reinvite, Ack, Bye, Cancel, Options, InviteSuccess, CancelResponse, OtherResponse}
 use Rattle.sip.specs.Profile.{response_column}
+use Rattle.sip.specs.Readings.{no_span}
 use Rattle.sip.specs.Values.{cseq_method}
 use Rattle.sip.specs.Refusals.{Answer, refusal, when, is_initial, first_of}
 use Rattle.lines.specs.declared.Slot.{Slot}
@@ -14,6 +15,7 @@ use Rattle.lines.specs.Index.{index, Head}
 use Rattle.values.specs.Answers.{request_uri}
 use Rattle.values.specs.declared.RequestUri.{RequestUri}
 use Rattle.judgement.specs.declared.Refusal.{Refusal}
+use Rattle.judgement.specs.declared.Refused.{Refused}
 use Rattle.judgement.specs.declared.Tally.{Tally}
 use Rattle.judgement.specs.declared.Judged.{Judged}
 use Rattle.judgement.specs.Sets.{has, kept_set, column_at, lack_at}
@@ -95,11 +97,10 @@ abbrev pub silenced : Bool → Refusal → Refusal
 silenced true r = record { reason = r.reason; reply = 0; detail = r.detail; missing = r.missing }
 silenced false r = r
 
--- by the first reason that applies, and where none does by what the kept fields say
-unfoldable pub judged_from : Head → Bool → ℕ → ℕ → Result Unit Refusal → Tally → ℕ → Result Judged Refusal
-judged_from h silent before kept (Ok u) t rest =
-    Ok
-    (record {
+-- what a message says, by its lines and by what its kept fields say
+abbrev pub found_by : Head → Bool → ℕ → ℕ → Tally → ℕ → Judged
+found_by h silent before kept t rest =
+    record {
       silent = silent;
       before = before;
       line = h.line;
@@ -111,20 +112,45 @@ judged_from h silent before kept (Ok u) t rest =
       withheld = not (eqb t.withheld 0);
       tag = t.tag;
       caller = t.caller;
-    })
-judged_from h silent before kept (Err r) t rest = Err (silenced silent r)
+    }
+
+-- a refusal before the kept fields are looked at
+abbrev pub bare_refused : ℕ → ℕ → Refused
+bare_refused reason reply =
+    record {
+      refusal = bare reason reply;
+      found =
+          record {
+            silent = false;
+            before = 0;
+            line = 0;
+            rest = 0;
+            count = 0;
+            kept = 0;
+            hops = 0;
+            body = 0;
+            withheld = false;
+            tag = no_span;
+            caller = None;
+          };
+    }
+
+-- by the first reason that applies and by what the kept fields say
+unfoldable pub judged_from : Head → Bool → ℕ → ℕ → Result Unit Refusal → Tally → ℕ → Result Judged Refused
+judged_from h silent before kept (Ok u) t rest = Ok (found_by h silent before kept t rest)
+judged_from h silent before kept (Err r) t rest = Err (record { refusal = silenced silent r; found = found_by h silent before kept t rest })
 
 -- of a request, by the column, the method, the Request-URI and what the kept fields say
-unfoldable pub request_by : Head → Column → List ℕ → RequestUri → Tally → ℕ → Result Judged Refusal
+unfoldable pub request_by : Head → Column → List ℕ → RequestUri → Tally → ℕ → Result Judged Refused
 request_by h c method u t rest =
     judged_from h (same (text "ACK") method) (h.method + 1 + h.uri + 1) (kept_set c) (checked (first_of (decided c t u rest))) t rest
 
 -- of a response
-unfoldable pub response_by : Head → Column → Tally → ℕ → Result Judged Refusal
+unfoldable pub response_by : Head → Column → Tally → ℕ → Result Judged Refused
 response_by h c t rest = judged_from h true 0 (kept_set c) (checked (first_of (shared c t rest))) t rest
 
 -- of either kind, by the column and the method; a response has no method in its start line
-unfoldable pub judged_by : List ℕ → List ℕ → Head → Column → List ℕ → Result Judged Refusal
+unfoldable pub judged_by : List ℕ → List ℕ → Head → Column → List ℕ → Result Judged Refused
 judged_by m ns h c method =
     let t = tallied method no_tally (entries_from (kept_set c) m ns h.count 0) in
     let rest = length m - h.rest in
@@ -132,11 +158,11 @@ judged_by m ns h c method =
 
 -- ---- the column of a request
 
-abbrev pub request_as : List ℕ → List ℕ → Head → RustOption Column → Result Judged Refusal
-request_as m ns h None = Err (bare 6 405)
+abbrev pub request_as : List ℕ → List ℕ → Head → RustOption Column → Result Judged Refused
+request_as m ns h None = Err (bare_refused 6 405)
 request_as m ns h (Some c) = judged_by m ns h c (take h.method m)
 
-unfoldable pub request_lines : List ℕ → List ℕ → Head → Result Judged Refusal
+unfoldable pub request_lines : List ℕ → List ℕ → Head → Result Judged Refused
 request_lines m ns h = request_as m ns h (column_at (take h.method m))
 
 -- ---- the column of a response
@@ -153,27 +179,27 @@ known_status n = cond (within 100 699 n) (Some n) None
 unfoldable pub method_at : List ℕ → Slot → List ℕ
 method_at m s = cseq_method (value_at m s)
 
-abbrev pub response_as : List ℕ → List ℕ → Head → List ℕ → Option Column → Result Judged Refusal
-response_as m ns h method none = Err (bare 6 0)
+abbrev pub response_as : List ℕ → List ℕ → Head → List ℕ → Option Column → Result Judged Refused
+response_as m ns h method none = Err (bare_refused 6 0)
 response_as m ns h method (some c) = judged_by m ns h c method
 
 -- by the status and the method
-unfoldable pub response_to : List ℕ → List ℕ → Head → ℕ → List ℕ → Result Judged Refusal
+unfoldable pub response_to : List ℕ → List ℕ → Head → ℕ → List ℕ → Result Judged Refused
 response_to m ns h status method = response_as m ns h method (response_column (within 200 299 status) method)
 
-unfoldable pub response_lines : List ℕ → List ℕ → Head → Result Judged Refusal
+unfoldable pub response_lines : List ℕ → List ℕ → Head → Result Judged Refused
 response_lines m ns h =
     let known = response_to m ns h (status_at m) (method_at m (first_slot 6 ns h.count 0)) in
-    cond (within 100 699 (status_at m)) known (Err (bare 17 0))
+    cond (within 100 699 (status_at m)) known (Err (bare_refused 17 0))
 
 -- ---- a message by its lines and slots
 
-unfoldable pub judged_lines : List ℕ → List ℕ → Head → Result Judged Refusal
+unfoldable pub judged_lines : List ℕ → List ℕ → Head → Result Judged Refused
 judged_lines m ns h = cond (eqb h.method 0) (response_lines m ns h) (request_lines m ns h)
 
 -- "Refusal numbers, first that applies": 2 to 15 and 17
-unfoldable pub judged_message : List ℕ → Result Judged Refusal
+unfoldable pub judged_message : List ℕ → Result Judged Refused
 judged_message m =
     let h = (index m).head in
     let ns = (index m).slots in
-    cond (eqb h.reason 0) (judged_lines m ns h) (Err (bare h.reason 0))
+    cond (eqb h.reason 0) (judged_lines m ns h) (Err (bare_refused h.reason 0))

@@ -12,6 +12,7 @@ use Rattle.sip.specs.Output.{before_version}
 use Rattle.sip.specs.Values.{tag_of}
 use Rattle.sip.specs.Refusals.{refusal, read, lines, Entry, message_column, kept_of, silent, withheld, Passed, refused, accepted, judgement}
 use Rattle.judgement.specs.declared.Refusal.{Refusal}
+use Rattle.judgement.specs.declared.Refused.{Refused}
 use Rattle.judgement.specs.declared.Judged.{Judged}
 use Rattle.judgement.specs.Sets.{has}
 use Rattle.judgement.specs.Entries.{Within, entries_from}
@@ -64,5 +65,5 @@ pub record Refuses (m : List ℕ) (r : Refusal) : Type 0 where
   pub has_reason : r.reason ≡ 0 → ⊥
   pub is_refused : judgement m ≡ refused (refusal r.reason r.reply r.detail r.missing)
 
-abbrev pub Judges : List ℕ → List ℕ → Result Judged Refusal → Type 0
-Judges m slots r = MatchResult r (λ (j : Judged). Passes m slots j) (λ (e : Refusal). Refuses m e)
+abbrev pub Judges : List ℕ → List ℕ → Result Judged Refused → Type 0
+Judges m slots r = MatchResult r (λ (j : Judged). Passes m slots j) (λ (e : Refused). Refuses m e.refusal)

@@ -4,12 +4,12 @@ ghost use Rattle.lines.specs.Index.{read_head};
 ghost use Rattle.judgement.specs.Judged.{judged_by};
 
 use crate::read::Read;
-use crate::{Judged, Refusal, requests, responses, sets, tallies};
+use crate::{Judged, Refused, requests, responses, sets, tallies};
 use lines::StartLine;
 use sip::Column;
 
 // By the kind, as in `judge_read`.
-pub(crate) fn judge(read: &Read, method: &[u8], c: Column) -> Result<Judged, Refusal>
+pub(crate) fn judge(read: &Read, method: &[u8], c: Column) -> Result<Judged, Refused>
     ensures { result ≡ judged_by read.now.message.now read.now.slots.now (read_head read.now.head) c method.now }
 {
     let t = tallies::tally(read, method, sets::kept_set(c));

@@ -94,6 +94,24 @@ pub struct Judged {
     pub caller: Option<sip::CallerAt>,
 }
 
+// A message that is refused: why, and what it says otherwise. Where it is refused before its kept fields are looked at (2 to 6, 17), nothing
+// is found of it.
+#[derive(Clone, Copy)]
+pub struct Refused {
+    pub refusal: Refusal,
+    pub found: Judged,
+}
+
+// Whoever asks for the reason alone goes on by `?`.
+impl From<Refused> for Refusal {
+    ghost from_gives = { λ refused refusal. refusal ≡ refused.refusal };
+
+    #[inline(always)]
+    fn from(refused: Refused) -> Refusal {
+        refused.refusal
+    }
+}
+
 // The set has the number.
 pub fn in_set(set: u32, n: usize) -> bool
     ensures { result ≡ has set n }
@@ -126,7 +144,7 @@ pub fn first_slot(slots: &[u16; 384], count: usize, n: usize) -> Option<lines::S
 }
 
 // By the kind.
-fn judge_read(read: &Read) -> Result<Judged, Refusal>
+fn judge_read(read: &Read) -> Result<Judged, Refused>
     ensures { result ≡ judged_lines read.now.message.now read.now.slots.now (read_head read.now.head) }
 {
     match read.head.start {
@@ -140,7 +158,7 @@ fn judge_read(read: &Read) -> Result<Judged, Refusal>
 // applies, and then it and the slots say what the accepted message is.
 // Inline, so that the compiler sees at each caller that the slots are cleared here, and does not clear them there too.
 #[inline(always)]
-pub fn judge(message: &[u8], slots: &mut [u16; 384]) -> Result<Judged, Refusal>
+pub fn judge(message: &[u8], slots: &mut [u16; 384]) -> Result<Judged, Refused>
     ensures answer { result ≡ judged_message message.now }
     ensures index { slots.new ≡ (index message.now).slots }
     ensures judges { Judges message.now slots.new result }
@@ -151,6 +169,6 @@ pub fn judge(message: &[u8], slots: &mut [u16; 384]) -> Result<Judged, Refusal>
             head,
             slots,
         }),
-        Err(why) => Err(Refusal::bare(u64::from(why), 0)),
+        Err(why) => Err(Refused::bare(u64::from(why), 0)),
     }
 }

@@ -9,7 +9,7 @@ ghost use Rattle.lines.specs.declared.StartLine.{StartLine};
 ghost use Rattle.judgement.specs.Judged.{hopless, column_tagged, early, late, decided, checked, request_by, request_lines};
 
 use crate::read::Read;
-use crate::{Judged, Refusal, Tally, columns, refusals, sets};
+use crate::{Judged, Refusal, Refused, Tally, columns, refusals, sets};
 use lines::StartLine;
 use sip::Column;
 use values::RequestUri;
@@ -96,28 +96,25 @@ pub(crate) fn answer(
     uri: usize,
     c: Column,
     t: Tally,
-) -> Result<Judged, Refusal>
+) -> Result<Judged, Refused>
     requires { read.now.head.start ≡ StartLine.Request size uri }
     ensures { result
         ≡ request_by (read_head read.now.head) c method.now (request_uri (take uri (drop (size + 1) read.now.message.now))) t
         (length read.now.message.now - read.now.head.rest) }
 {
-    let silent = is_ack(method);
-    if let Err(r) = decide(c, t, request_uri(read, size, uri), read.rest()) {
-        return Err(r.silenced(silent));
-    }
+    let reasons = decide(c, t, request_uri(read, size, uri), read.rest());
     let before = size + 1 + uri + 1;
-    Ok(refusals::judged(read, silent, before, sets::kept_set(c), t))
+    refusals::judged(read, is_ack(method), before, sets::kept_set(c), reasons, t)
 }
 
 // A request by its lines and slots and the length of its method.
-pub(crate) fn judge_request(read: &Read, size: usize) -> Result<Judged, Refusal>
+pub(crate) fn judge_request(read: &Read, size: usize) -> Result<Judged, Refused>
     requires { size ≡ method_of read.now.head.start }
     ensures { result ≡ request_lines read.now.message.now read.now.slots.now (read_head read.now.head) }
 {
     let method = octets::first(read.message, size);
     match sets::column_of(method) {
-        None => Err(Refusal::bare(6, 405)),
+        None => Err(Refused::bare(6, 405)),
         Some(c) => columns::judge(read, method, c),
     }
 }

@@ -8,7 +8,7 @@ ghost use Rattle.judgement.specs.Entries.{unfolded_by};
 ghost use Rattle.judgement.specs.Judged.{response_by, known_status, status_at, response_to, response_lines};
 
 use crate::read::Read;
-use crate::{Judged, Refusal, Tally, columns, refusals, sets, tallies};
+use crate::{Judged, Refused, Tally, columns, refusals, sets, tallies};
 use sip::Column;
 
 // The three digits after the version, where they are a status.
@@ -36,17 +36,15 @@ fn invite_column(status: u64) -> Column
 }
 
 // A response of that column, by what its kept fields say.
-pub(crate) fn answer(read: &Read, c: Column, t: Tally) -> Result<Judged, Refusal>
+pub(crate) fn answer(read: &Read, c: Column, t: Tally) -> Result<Judged, Refused>
     ensures { result ≡ response_by (read_head read.now.head) c t (length read.now.message.now - read.now.head.rest) }
 {
-    if let Err(r) = refusals::shared(c, t, read.rest()) {
-        return Err(r.silenced(true));
-    }
-    Ok(refusals::judged(read, true, 0, sets::kept_set(c), t))
+    let reasons = refusals::shared(c, t, read.rest());
+    refusals::judged(read, true, 0, sets::kept_set(c), reasons, t)
 }
 
 // A response of that status whose first CSeq has this value, folded or not.
-fn judge_status(read: &Read, status: u64, v: &[u8], fold: bool) -> Result<Judged, Refusal>
+fn judge_status(read: &Read, status: u64, v: &[u8], fold: bool) -> Result<Judged, Refused>
     requires { length v.now ≤ 8192 }
     ensures { result ≡ response_to read.now.message.now read.now.slots.now (read_head read.now.head) status (cseq_method (unfolded_by fold v.now)) }
 {
@@ -62,18 +60,18 @@ fn judge_status(read: &Read, status: u64, v: &[u8], fold: bool) -> Result<Judged
     if tallies::is_cseq(b"OPTIONS", v, fold) {
         return columns::judge(read, b"OPTIONS", Column::OtherResponse);
     }
-    Err(Refusal::bare(6, 0))
+    Err(Refused::bare(6, 0))
 }
 
 // A response by its lines and slots.
-pub(crate) fn judge_response(read: &Read) -> Result<Judged, Refusal>
+pub(crate) fn judge_response(read: &Read) -> Result<Judged, Refused>
     ensures { result ≡ response_lines read.now.message.now read.now.slots.now (read_head read.now.head) }
 {
     let Some(status) = status_of(read.message) else {
-        return Err(Refusal::bare(17, 0));
+        return Err(Refused::bare(17, 0));
     };
     let Some(s) = crate::first_slot(read.slots, read.head.count, 6) else {
-        return Err(Refusal::bare(6, 0));
+        return Err(Refused::bare(6, 0));
     };
     judge_status(read, status, tallies::value_of(read.message, s), s.folded)
 }

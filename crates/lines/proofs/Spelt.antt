@@ -101,8 +101,8 @@ module _ (n : ℕ) (t : List ℕ) (e : spells n t ≡ true) where
   pub spelling_long : 4 ≤ length t
   spelling_long = range_low 4 20 (length t) text_parts.0
 
-  pub spelling_fits : (name : List ℕ) → length name ≡ 20 → 0 + length t ≤ length name
-  spelling_fits name h = omega (arith, range_high 4 20 (length t) text_parts.0)
+  pub spelling_short : length t ≤ 20
+  spelling_short = range_high 4 20 (length t) text_parts.0
 
   spelling_is : t ≡ name_of n ++ 58 ∷ []
   spelling_is = same_is t (name_of n ++ 58 ∷ []) text_parts.1

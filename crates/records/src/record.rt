@@ -54,6 +54,7 @@ pub(crate) fn len(s: &[u8]) -> usize
 }
 
 // The record at the front of a text that is not empty.
+#[tactic(auto, unfolding(crate::specs::Records::refusal_at))]
 pub(crate) fn read(s: &[u8]) -> Result<Record<'_>, End>
     ensures refused { refusal_in result ≡ refusal_at s.now }
     ensures whole { IfOk result (λ r. (r.side ≡ (record_at s.now).side) × (r.message.now ≡ (record_at s.now).message)) }

@@ -38,8 +38,10 @@ fn list<F: Fn(&[u8]) -> bool>(sep: u8, wanted: F, v: &[u8]) -> Option<Tokens>
             return None;
         }
         count += 1;
-        let here = wanted(octets::first(left, size)).then_some(count);
-        first = first.or(here);
+        // After the first that is looked for no token is tested.
+        if first.is_none() && wanted(octets::first(left, size)) {
+            first = Some(count);
+        }
         let after = past(left, size);
         if after.len() < 1 {
             return Some(Tokens { count, first });

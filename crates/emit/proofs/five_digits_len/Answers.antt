@@ -13,7 +13,7 @@ pub returns-in-100-to-999 : goal.returns-in-100-to-999
 returns-in-100-to-999 c = len3 c.args.n (omega arith) (omega arith)
 
 pub returns-in-1000-to-9999 : goal.returns-in-1000-to-9999
-returns-in-1000-to-9999 c = len4 c.args.n (omega arith) (omega arith)
+returns-in-1000-to-9999 c = let e = len4 c.args.n (omega arith) (omega arith) in omega arith
 
 pub returns-in_default : goal.returns-in_default
 returns-in_default c = len5 c.args.n (omega arith)

@@ -5,13 +5,13 @@ use Prim.Native.Nat.{ℕ}
 use borrow.Author.Tests.{eq-eqb, ne_eqb}
 use Rattle.lines.specs.Index.{Head, read_head, method_of}
 use Rattle.judgement.specs.declared.Judged.{Judged}
-use Rattle.judgement.specs.declared.Refusal.{Refusal}
+use Rattle.judgement.specs.declared.Refused.{Refused}
 use Rattle.std.specs.Prelude.{Result}
 use Rattle.judgement.specs.Judged.{request_lines, response_lines, judged_lines}
 use Rattle.judgement.proofs.Messages.{some_method}
 use Rattle.judgement.proofs.judge_read.Goals as goal
 
-module _ (m slots : List ℕ) (h : Head) {a : Result Judged Refusal} where
+module _ (m slots : List ℕ) (h : Head) {a : Result Judged Refused} where
   responds : h.method ≡ 0 → a ≡ response_lines m slots h → a ≡ judged_lines m slots h
   unfolding judged_lines
   responds q e = e ∙ rw (eq-eqb h.method 0 q)

@@ -90,4 +90,4 @@ loop-b-preserved c = (
 
 pub returns : goal.returns
 returns c =
-    done c.args.s.now c.loop-b.b-index c.loop-b.invariant.2 (some_length c.args.s.now (sym c.is_empty.ensures ∙ c.if-is_empty.false)) c.if-s-gt19.false c.loop-b.v c.loop-b.invariant.1 c.loop-b-test.false
+    done c.args.s.now c.loop-b.b-index c.loop-b.invariant.2 (some_length c.args.s.now c.is_empty.ensures c.if-is_empty.false) c.if-s-gt19.false c.loop-b.v c.loop-b.invariant.1 c.loop-b-test.false

@@ -16,8 +16,8 @@ loop-j-preserved g c = search (word_more g.row.N, rules)
 pub returns : goal.returns
 returns g c = elim c.loop-j-test.branch [
   | else-loop-j-test w ↦
-      word_last g.row.N _ _ _ c.requires.2 c.loop-j.j _ (w.out-is ∙ c.loop-j.invariant.2) c.requires.1 (omega arith) (omega arith) c.word-2.ensures c.put-2.ensures
+      word_last g.row.N _ _ _ c.requires.2 c.loop-j.j _ (w.out-is ∙ c.loop-j.invariant.2) c.requires.1 (omega arith) (omega arith) c.word-2.ensures (omega arith) c.put-2.ensures
   | then-loop-j-test+else-j-step-last w ↦
       let e = word_more g.row.N _ _ _ c.requires.2 c.loop-j.j _ c.loop-j.invariant.2 w.loop-j-test.true w.word.ensures w.put.ensures refl in
-      word_last g.row.N _ _ _ c.requires.2 (c.loop-j.j + g.row.N) _ (w.out-is ∙ e) c.requires.1 (omega arith) (omega arith) c.word-2.ensures c.put-2.ensures
+      word_last g.row.N _ _ _ c.requires.2 (c.loop-j.j + g.row.N) _ (w.out-is ∙ e) c.requires.1 (omega arith) (omega arith) c.word-2.ensures (omega arith) c.put-2.ensures
 ]

@@ -1,14 +1,13 @@
 -- The first i digits stand behind the prefix (Decoding).
 use Rattle.std.proofs.Common.{rules}
 use Rattle.isup.specs.Fields.{signals}
-use Rattle.isup.proofs.Decoding.{on_ok, number_begin, number_room, number_next}
+use Rattle.isup.proofs.Decoding.{number_begin, number_room, number_next}
 use Rattle.isup.proofs.backward.number_of.Goals as goal
 
 pub loop-i-init : goal.loop-i-init
 unfolding signals
 loop-i-init c =
-    number_begin c.args.prefix.now c.new-number.ensures c.push.ensures.items
-    (on_ok c.try_extend_from_slice.result c.unwrap.ensures c.try_extend_from_slice.ensures.ok)
+    number_begin c.args.prefix.now c.new-number.ensures c.push.ensures c.append.ensures
 
 pub push-requires-in-loop-i : goal.push-requires-in-loop-i
 push-requires-in-loop-i c = search (number_room, rules)

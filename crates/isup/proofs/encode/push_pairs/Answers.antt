@@ -1,6 +1,7 @@
 -- What is left to pack stands behind what is packed (Encoding).
 use Rattle.std.proofs.Common.{◌≡◌, ap, ◌∙◌, arith}
 use Rattle.std.specs.Slice.Iter.{chunks_rest, chunks_size}
+use Rattle.isup.specs.Held.{held}
 use Rattle.isup.proofs.Encoding.{packing_begin, pair_digits, pair_room, packing_next, all_packed}
 use Rattle.isup.proofs.encode.push_pairs.Goals as goal
 
@@ -11,7 +12,7 @@ loop-pair-init c =
       omega arith,
       tt,
       two,
-      packing_begin c.args.octets.now.items c.args.digits.now (ap chunks_rest e ∙ c.chunks-pair-items.ensures.rest) c.requires.0,
+      packing_begin (held c.args.octets.now) c.args.digits.now (ap chunks_rest e ∙ c.chunks-pair-items.ensures.rest) c.requires.0,
     )
 
 pub octet_of-requires : goal.octet_of-requires
@@ -38,7 +39,7 @@ loop-pair-preserved c =
       tt,
       two,
       packing_next _ _ _ _ c.loop-pair.invariant.3 c.in-Some.pair.now (chunks_rest c.next.new.self) s.0 c.loop-pair.invariant.2 s.1
-          c.octet_of.ensures c.push.ensures.items,
+          c.octet_of.ensures c.push.ensures,
     )
 
 pub returns : goal.returns

@@ -11,7 +11,7 @@ use Rattle.lines.specs.declared.StartLine.{StartLine}
 use Rattle.lines.specs.declared.StartLine.TheVariants.{Request}
 use Rattle.judgement.specs.declared.Tally.{Tally}
 use Rattle.judgement.specs.declared.Judged.{Judged}
-use Rattle.judgement.specs.declared.Refusal.{Refusal}
+use Rattle.judgement.specs.declared.Refused.{Refused}
 use Rattle.std.specs.Prelude.{Result}
 use Rattle.judgement.specs.Sets.{kept_set}
 use Rattle.judgement.specs.Entries.{entries_from}
@@ -21,7 +21,7 @@ use Rattle.judgement.proofs.Messages.{some_method}
 use Rattle.judgement.proofs.columns.judge.Goals as goal
 
 module _ (m slots : List ℕ) (h : Head) (c : Column) (method : List ℕ) {rest : ℕ} (es : rest ≡ length m - h.rest) {k : ℕ} (ek : k ≡ kept_set c)
-    {t : Tally} (et : t ≡ tallied method no_tally (entries_from k m slots h.count 0)) {a : Result Judged Refusal}
+    {t : Tally} (et : t ≡ tallied method no_tally (entries_from k m slots h.count 0)) {a : Result Judged Refused}
   where
     response : h.method ≡ 0 → a ≡ response_by h c t rest → a ≡ judged_by m slots h c method
     unfolding judged_by

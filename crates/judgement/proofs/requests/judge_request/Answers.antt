@@ -6,21 +6,21 @@ use lib.ListN.{take}
 use Rattle.std.specs.Prelude.{Option, Some, None, Result, Err}
 use Rattle.sip.specs.declared.Column.{Column}
 use Rattle.lines.specs.Index.{Head, read_head}
-use Rattle.judgement.specs.declared.Refusal.{Refusal}
+use Rattle.judgement.specs.declared.Refused.{Refused}
 use Rattle.judgement.specs.declared.Judged.{Judged}
 use Rattle.judgement.specs.Sets.{column_at}
-use Rattle.judgement.specs.Judged.{bare, judged_by, request_lines}
+use Rattle.judgement.specs.Judged.{bare_refused, judged_by, request_lines}
 use Rattle.judgement.proofs.requests.judge_request.Goals as goal
 
 module _ (m slots : List ℕ) (h : Head) {p : List ℕ} (hp : p ≡ take h.method m) {k : Option Column} (hk : k ≡ column_at p) where
   column_is : (x : Option Column) → k ≡ x → column_at (take h.method m) ≡ x
   column_is x q = ap column_at (sym hp) ∙ sym hk ∙ q
 
-  no_column : k ≡ None → {x : Refusal} → x ≡ bare 6 405 → Err x ≡ request_lines m slots h
+  no_column : k ≡ None → {x : Refused} → x ≡ bare_refused 6 405 → Err x ≡ request_lines m slots h
   unfolding request_lines
   no_column q hx = rw (hx, column_is None q)
 
-  by_column : {c : Column} → k ≡ Some c → {a : Result Judged Refusal} → a ≡ judged_by m slots h c p → a ≡ request_lines m slots h
+  by_column : {c : Column} → k ≡ Some c → {a : Result Judged Refused} → a ≡ judged_by m slots h c p → a ≡ request_lines m slots h
   unfolding request_lines
   by_column {c} q ha = rw (ha, column_is (Some c) q, hp)
 

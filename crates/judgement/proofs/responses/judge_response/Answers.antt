@@ -4,6 +4,7 @@ use mathlib.Core.Bool.{Bool, true, false, cond}
 use mathlib.Core.List.{List, []}
 use mathlib.Core.Option.{none}
 use Prim.Native.Nat.{ℕ}
+use native.Mathlib.Omega.{arith}
 use lib.ListN.{take, drop}
 use Rattle.std.specs.Prelude.{Some, None, Result, Err}
 use Rattle.octets.specs.Classes.{text, within}
@@ -12,10 +13,10 @@ use Rattle.sip.specs.Profile.{response_column}
 use Rattle.sip.specs.Values.{cseq_method}
 use Rattle.lines.specs.declared.Slot.{Slot}
 use Rattle.lines.specs.Index.{read_head, Head, no_slot}
-use Rattle.judgement.specs.declared.Refusal.{Refusal}
+use Rattle.judgement.specs.declared.Refused.{Refused}
 use Rattle.judgement.specs.declared.Judged.{Judged}
 use Rattle.judgement.specs.Entries.{unfolded_by, value_at, first_slot}
-use Rattle.judgement.specs.Judged.{bare, known_status, status_at, method_at, response_to, response_lines}
+use Rattle.judgement.specs.Judged.{bare_refused, known_status, status_at, method_at, response_to, response_lines}
 use Rattle.sip.proofs.Tests.{never}
 use Rattle.judgement.proofs.Slots.{slot_fits}
 use Rattle.judgement.proofs.responses.judge_response.Goals as goal
@@ -26,9 +27,9 @@ module _ (m slots : List ℕ) (h : Head) where
     inside true q = never (cc)
     inside false q = refl
 
-    refuses : {x : Refusal} → x ≡ bare 17 0 → Err x ≡ response_lines m slots h
+    refuses : {n : ℕ} {x : Refused} → x ≡ bare_refused n 0 → n ≡ 17 → Err x ≡ response_lines m slots h
     unfolding response_lines
-    refuses hx = rw (hx, inside (within 100 699 (status_at m)) e)
+    refuses hx hn = rw (hx, hn, inside (within 100 699 (status_at m)) e)
 
   module _ {n : ℕ} (e : Some n ≡ known_status (status_at m)) where
     known : (b : Bool) → Some n ≡ (cond b (Some (status_at m)) None) → (b ≡ true) × (status_at m ≡ n)
@@ -36,7 +37,7 @@ module _ (m slots : List ℕ) (h : Head) where
     known false q = never (cc)
 
     between : {s : Slot} → s ≡ first_slot 6 slots h.count 0 → {v : List ℕ} → v ≡ take s.len (drop s.start m)
-        → {a : Result Judged Refusal} → a ≡ response_to m slots h n (cseq_method (unfolded_by s.folded v)) → a ≡ response_lines m slots h
+        → {a : Result Judged Refused} → a ≡ response_to m slots h n (cseq_method (unfolded_by s.folded v)) → a ≡ response_lines m slots h
     unfolding response_lines method_at value_at
     between hs hv ha = let k = known (within 100 699 (status_at m)) e in rw (k.0, k.1, ← hs, ← hv, ha)
 
@@ -49,12 +50,12 @@ module _ (m slots : List ℕ) (h : Head) where
     unfolding method_at value_at cseq_method number run
     no_method = refl
 
-    nameless : no_slot ≡ first_slot 6 slots h.count 0 → {x : Refusal} → x ≡ bare 6 0 → Err x ≡ response_lines m slots h
+    nameless : no_slot ≡ first_slot 6 slots h.count 0 → {x : Refused} → x ≡ bare_refused 6 0 → Err x ≡ response_lines m slots h
     unfolding response_lines response_to
     nameless hs hx = let k = known (within 100 699 (status_at m)) e in rw (k.0, ← hs, no_method, hx, unnamed)
 
 pub returns-in_default : goal.returns-in_default
-returns-in_default c = refuses c.args.read.now.message.now c.args.read.now.slots.now (read_head c.args.read.now.head) c.in_default.ensures c.bare.ensures
+returns-in_default c = refuses c.args.read.now.message.now c.args.read.now.slots.now (read_head c.args.read.now.head) c.in_default.ensures c.bare.ensures (omega arith)
 
 pub returns-in_default-first_slot : goal.returns-in_default-first_slot
 returns-in_default-first_slot c =

@@ -14,10 +14,10 @@ use Rattle.sip.specs.Values.{is_cseq, cseq_method}
 use Rattle.sip.proofs.Methods.{cseq_names}
 use Rattle.sip.proofs.Texts.{same_eq}
 use Rattle.lines.specs.Index.{Head}
-use Rattle.judgement.specs.declared.Refusal.{Refusal}
+use Rattle.judgement.specs.declared.Refused.{Refused}
 use Rattle.judgement.specs.declared.Judged.{Judged}
 use Rattle.std.specs.Prelude.{Result, Err}
-use Rattle.judgement.specs.Judged.{bare, judged_by, response_to}
+use Rattle.judgement.specs.Judged.{bare_refused, judged_by, response_to}
 use Rattle.judgement.proofs.responses.judge_status.Goals as goal
 
 module _ (m slots : List ℕ) (h : Head) (status : ℕ) (v : List ℕ) where
@@ -27,29 +27,29 @@ module _ (m slots : List ℕ) (h : Head) (status : ℕ) (v : List ℕ) where
   named : (name : List ℕ) → 0 < length name → all is_token name ≡ true → {b : Bool} → b ≡ is_cseq name v → b ≡ true → cseq_method v ≡ name
   named name l t e q = sym (same_eq name (cseq_method v) (tested name l t e ∙ q))
 
-  invite : {i : Bool} → i ≡ is_cseq (73 ∷ 78 ∷ 86 ∷ 73 ∷ 84 ∷ 69 ∷ []) v → i ≡ true → {c : Column} → c ≡ cond (within 200 299 status) InviteSuccess OtherResponse → {a : Result Judged Refusal}
+  invite : {i : Bool} → i ≡ is_cseq (73 ∷ 78 ∷ 86 ∷ 73 ∷ 84 ∷ 69 ∷ []) v → i ≡ true → {c : Column} → c ≡ cond (within 200 299 status) InviteSuccess OtherResponse → {a : Result Judged Refused}
       → a ≡ judged_by m slots h c (73 ∷ 78 ∷ 86 ∷ 73 ∷ 84 ∷ 69 ∷ []) → a ≡ response_to m slots h status (cseq_method v)
   unfolding response_to response_column same text all is_token
   invite hi q hc e = e ∙ rw (hc, named (73 ∷ 78 ∷ 86 ∷ 73 ∷ 84 ∷ 69 ∷ []) (omega arith) refl hi q)
 
-  bye : {b : Bool} → b ≡ is_cseq (66 ∷ 89 ∷ 69 ∷ []) v → b ≡ true → {a : Result Judged Refusal}
+  bye : {b : Bool} → b ≡ is_cseq (66 ∷ 89 ∷ 69 ∷ []) v → b ≡ true → {a : Result Judged Refused}
       → a ≡ judged_by m slots h OtherResponse (66 ∷ 89 ∷ 69 ∷ []) → a ≡ response_to m slots h status (cseq_method v)
   unfolding response_to response_column same text all is_token
   bye hb q e = e ∙ rw (named (66 ∷ 89 ∷ 69 ∷ []) (omega arith) refl hb q)
 
-  cancel : {k : Bool} → k ≡ is_cseq (67 ∷ 65 ∷ 78 ∷ 67 ∷ 69 ∷ 76 ∷ []) v → k ≡ true → {a : Result Judged Refusal}
+  cancel : {k : Bool} → k ≡ is_cseq (67 ∷ 65 ∷ 78 ∷ 67 ∷ 69 ∷ 76 ∷ []) v → k ≡ true → {a : Result Judged Refused}
       → a ≡ judged_by m slots h CancelResponse (67 ∷ 65 ∷ 78 ∷ 67 ∷ 69 ∷ 76 ∷ []) → a ≡ response_to m slots h status (cseq_method v)
   unfolding response_to response_column same text all is_token
   cancel hk q e = e ∙ rw (named (67 ∷ 65 ∷ 78 ∷ 67 ∷ 69 ∷ 76 ∷ []) (omega arith) refl hk q)
 
-  options : {o : Bool} → o ≡ is_cseq (79 ∷ 80 ∷ 84 ∷ 73 ∷ 79 ∷ 78 ∷ 83 ∷ []) v → o ≡ true → {a : Result Judged Refusal}
+  options : {o : Bool} → o ≡ is_cseq (79 ∷ 80 ∷ 84 ∷ 73 ∷ 79 ∷ 78 ∷ 83 ∷ []) v → o ≡ true → {a : Result Judged Refused}
       → a ≡ judged_by m slots h OtherResponse (79 ∷ 80 ∷ 84 ∷ 73 ∷ 79 ∷ 78 ∷ 83 ∷ []) → a ≡ response_to m slots h status (cseq_method v)
   unfolding response_to response_column same text all is_token
   options ho q e = e ∙ rw (named (79 ∷ 80 ∷ 84 ∷ 73 ∷ 79 ∷ 78 ∷ 83 ∷ []) (omega arith) refl ho q)
 
   unknown : {i b k o : Bool} → i ≡ is_cseq (73 ∷ 78 ∷ 86 ∷ 73 ∷ 84 ∷ 69 ∷ []) v → i ≡ false → b ≡ is_cseq (66 ∷ 89 ∷ 69 ∷ []) v → b ≡ false
       → k ≡ is_cseq (67 ∷ 65 ∷ 78 ∷ 67 ∷ 69 ∷ 76 ∷ []) v → k ≡ false → o ≡ is_cseq (79 ∷ 80 ∷ 84 ∷ 73 ∷ 79 ∷ 78 ∷ 83 ∷ []) v → o ≡ false
-      → {x : Refusal} → x ≡ bare 6 0 → Err x ≡ response_to m slots h status (cseq_method v)
+      → {x : Refused} → x ≡ bare_refused 6 0 → Err x ≡ response_to m slots h status (cseq_method v)
   unfolding response_to response_column text all is_token
   unknown hi ei hb eb hk ek ho eo hx =
       rw (

@@ -1,17 +1,18 @@
 -- One law for each `return` and for a turn, at the test that `wanted` makes.
-use Rattle.std.proofs.Common.{◌≡◌, ℕ, ◌+◌, ◌<◌, ◌≤◌, Bool, true, false, cond, List, [], ◌∷◌, Option, Some, None, IfSome, unwrap_or, length, take, drop, eqb, refl, sym, ◌∙◌, arith}
+use Rattle.std.proofs.Common.{◌≡◌, ℕ, ◌+◌, ◌<◌, ◌≤◌, Bool, true, false, cond, not, List, [], ◌∷◌, Option, Some, None, IfSome, unwrap_or, length, take, drop, eqb, refl, sym, ◌∙◌, arith}
 use Rattle.std.proofs.lemmas.Fn.{says_at}
-use Rattle.std.specs.Option.{option_or}
-use Rattle.std.specs.Bool.{then_some}
+use Rattle.std.specs.Option.{is_some}
 use Rattle.std.proofs.Math.Seq.{drop-drop}
 use Rattle.std.proofs.Math.Option.{none, some}
 use Rattle.octets.specs.Classes.{is_token}
 use Rattle.octets.specs.Scans.{run}
 use Rattle.octets.proofs.Runs.{run_le}
 use Rattle.sip.specs.Values.{is_empty, sign, with_token, tokens}
+use Rattle.sip.proofs.Tests.{never}
 use Rattle.values.specs.Answers.{list_at, no_list}
 use Rattle.values.proofs.Within.{not_zero}
 use Rattle.values.proofs.Lists.{no_bytes, has_bytes, no_first, a_first, answer, begins, next, last, later}
+use Rattle.values.proofs.list.list.Goals.{then-is_none+then-wanted, else-is_none, else-is_none-via-then-is_none+else-wanted, else-is_none-via-else-is_none}
 use Rattle.values.proofs.list.list.Goals as goal
 
 module _ (sep : ℕ) (p : List ℕ → Bool) (v : List ℕ) (n f : ℕ) (t : List ℕ) (e : list_at sep p v ≡ answer p n f (tokens sep 0 t)) {m : ℕ} (hm : m ≡ run is_token t) where
@@ -37,16 +38,27 @@ module _ (sep : ℕ) (p : List ℕ → Bool) (v : List ℕ) (n f : ℕ) (t : Lis
           let d : drop (m + s) t ≡ u = sym (hu ∙ rw ha (drop-drop s m t)) in
           e ∙ rw (here, has_bytes a l, ← hs, not_zero s z, d, hg, hw) (next p n f (take m t) (tokens sep 0 u))
 
--- the place of the first that passes, from 1, after one more token
-from_one : (o : Option ℕ) (b : Bool) (k : ℕ) → IfSome o (λ n. 1 ≤ n) → 1 ≤ k → IfSome (option_or o (then_some b k)) (λ n. 1 ≤ n)
-from_one None true k i l = l
-from_one None false k i l = tt
-from_one (Some n) b k i l = i
+-- the place of the first that passes, from 1, after one more token: that of an earlier one, or else this one's if it passes
+module _ (p : List ℕ → Bool) (n : ℕ) (o : Option ℕ) (i : IfSome o (λ k. 1 ≤ k)) {b : Bool} (hb : is_some o ≡ not b) where
+  none_before : b ≡ true → o ≡ None
+  none_before q = go o (hb ∙ rw q refl)
+    where
+      go : (x : Option ℕ) → is_some x ≡ false → x ≡ None
+      go None e = refl
+      go (Some k) e = never (cc)
 
-placed : (p : List ℕ → Bool) (o : Option ℕ) (n : ℕ) (w : List ℕ) (b : Bool) → IfSome o (λ n. 1 ≤ n) → b ≡ p w → unwrap_or (option_or o (then_some b (n + 1))) 0 ≡ later p n (unwrap_or o 0) w
-placed p None n w true i e = rw (← e)
-placed p None n w false i e = rw (← e)
-placed p (Some k) n w b i e = rw (not_zero k i)
+  this_one : b ≡ true → {f : Option ℕ} → f ≡ Some (n + 1) → {t w : List ℕ} → t ≡ w → {a : Bool} → a ≡ true → a ≡ p t → unwrap_or f 0 ≡ later p n (unwrap_or o 0) w
+  this_one q e hw ea h = rw (e, none_before q, ← hw, ← h, ea)
+
+  none_yet : b ≡ true → {f : Option ℕ} → f ≡ o → {t w : List ℕ} → t ≡ w → {a : Bool} → a ≡ false → a ≡ p t → unwrap_or f 0 ≡ later p n (unwrap_or o 0) w
+  none_yet q e hw ea h = rw (e, none_before q, ← hw, ← h, ea)
+
+  earlier : b ≡ false → {f : Option ℕ} → f ≡ o → (w : List ℕ) → unwrap_or f 0 ≡ later p n (unwrap_or o 0) w
+  earlier q {f} e w = go o (hb ∙ rw q refl) i e
+    where
+      go : (x : Option ℕ) → is_some x ≡ true → IfSome x (λ k. 1 ≤ k) → f ≡ x → unwrap_or f 0 ≡ later p n (unwrap_or x 0) w
+      go None y z g = never (cc)
+      go (Some k) y z g = rw (g, not_zero k z)
 
 pub tokens-init : goal.tokens-init
 tokens-init g c = record { counts = omega arith; from_one = tt; reads = λ p h. begins p c.args.sep c.args.v.now }
@@ -58,15 +70,30 @@ returns-then-size-lt1-clause-reads g c = λ p h.
 pub overflow_add-count : goal.overflow_add-count
 overflow_add-count g c = omega arith
 
-pub returns-then-after-lt1-clause-counts : goal.returns-then-after-lt1-clause-counts
-returns-then-after-lt1-clause-counts g c =
-    (omega arith, rw (c.or-first.ensures, c.then_some-here.ensures) (from_one c.tokens.first c.wanted.result _ c.tokens.invariant.from_one (omega arith)))
-
 pub returns-then-after-lt1-clause-reads : goal.returns-then-after-lt1-clause-reads
 returns-then-after-lt1-clause-reads g c = λ p h.
-    let first : unwrap_or c.or-first.result 0 ≡ later p c.tokens.count (unwrap_or c.tokens.first 0) c.first.result.now
-    = rw (c.or-first.ensures, c.then_some-here.ensures) (placed p c.tokens.first c.tokens.count c.first.result.now c.wanted.result c.tokens.invariant.from_one (h _ _ (says_at g.F.Fn c.wanted.ensures refl))) in
-    whole c.args.sep p c.args.v.now _ _ _ (c.tokens.invariant.reads p h) c.run-size.ensures.0 (omega arith) c.past-after.ensures.0 c.first.ensures.0 first (omega arith)
+    let b : is_some c.tokens.first ≡ not c.is_none.result = cc in
+    let first : unwrap_or c.if-is_none.first 0 ≡ later p c.tokens.count (unwrap_or c.tokens.first 0) (take c.run-size.result c.tokens.left.now) = elim c.if-is_none.branch [
+      | then-is_none+then-wanted w ↦
+          this_one p _ c.tokens.first c.tokens.invariant.from_one b w.if-is_none.true w.first-is w.first.ensures.0 w.if-wanted.true
+          (h _ _ (says_at g.F.Fn w.wanted.ensures refl))
+      | else-is_none w ↦ let e : c.if-is_none.first ≡ c.tokens.first = cc in elim w.else-is_none.branch [
+        | else-is_none-via-then-is_none+else-wanted x ↦
+            none_yet p _ c.tokens.first c.tokens.invariant.from_one b x.if-is_none.true e x.first.ensures.0 x.if-wanted.false
+            (h _ _ (says_at g.F.Fn x.wanted.ensures refl))
+        | else-is_none-via-else-is_none x ↦ earlier p _ c.tokens.first c.tokens.invariant.from_one b x.if-is_none.false e _
+      ]
+    ] in
+    whole c.args.sep p c.args.v.now _ _ _ (c.tokens.invariant.reads p h) c.run-size.ensures.0 (omega arith) c.past-after.ensures.0 refl first (omega arith)
+
+pub returns-then-after-lt1-clause-counts : goal.returns-then-after-lt1-clause-counts
+returns-then-after-lt1-clause-counts g c = (
+  omega arith,
+  elim c.if-is_none.branch [
+    | then-is_none+then-wanted w ↦ rw w.first-is (omega arith)
+    | else-is_none w ↦ let e : c.if-is_none.first ≡ c.tokens.first = cc in rw e c.tokens.invariant.from_one
+  ],
+)
 
 pub returns-in_err-gap-clause-reads : goal.returns-in_err-gap-clause-reads
 returns-in_err-gap-clause-reads g c = λ p h.
@@ -79,9 +106,22 @@ tokens-smaller g c = omega arith
 pub tokens-preserved : goal.tokens-preserved
 tokens-preserved g c = record {
   counts = omega arith;
-  from_one = rw (c.or-first.ensures, c.then_some-here.ensures) (from_one c.tokens.first c.wanted.result _ c.tokens.invariant.from_one (omega arith));
+  from_one = elim c.if-is_none.branch [
+    | then-is_none+then-wanted w ↦ rw w.first-is (omega arith)
+    | else-is_none w ↦ let e : c.if-is_none.first ≡ c.tokens.first = cc in rw e c.tokens.invariant.from_one
+  ];
   reads = λ p h.
-      let first : unwrap_or c.or-first.result 0 ≡ later p c.tokens.count (unwrap_or c.tokens.first 0) c.first.result.now
-      = rw (c.or-first.ensures, c.then_some-here.ensures) (placed p c.tokens.first c.tokens.count c.first.result.now c.wanted.result c.tokens.invariant.from_one (h _ _ (says_at g.F.Fn c.wanted.ensures refl))) in
-      again c.args.sep p c.args.v.now _ _ _ (c.tokens.invariant.reads p h) c.run-size.ensures.0 (omega arith) c.past-after.ensures.0 c.first.ensures.0 first (omega arith) c.in_ok-gap.ensures.0 (omega arith) c.past-left.ensures.0;
+      let b : is_some c.tokens.first ≡ not c.is_none.result = cc in
+      let first : unwrap_or c.if-is_none.first 0 ≡ later p c.tokens.count (unwrap_or c.tokens.first 0) (take c.run-size.result c.tokens.left.now) = elim c.if-is_none.branch [
+        | then-is_none+then-wanted w ↦
+            this_one p _ c.tokens.first c.tokens.invariant.from_one b w.if-is_none.true w.first-is w.first.ensures.0 w.if-wanted.true
+            (h _ _ (says_at g.F.Fn w.wanted.ensures refl))
+        | else-is_none w ↦ let e : c.if-is_none.first ≡ c.tokens.first = cc in elim w.else-is_none.branch [
+          | else-is_none-via-then-is_none+else-wanted x ↦
+              none_yet p _ c.tokens.first c.tokens.invariant.from_one b x.if-is_none.true e x.first.ensures.0 x.if-wanted.false
+              (h _ _ (says_at g.F.Fn x.wanted.ensures refl))
+          | else-is_none-via-else-is_none x ↦ earlier p _ c.tokens.first c.tokens.invariant.from_one b x.if-is_none.false e _
+        ]
+      ] in
+      again c.args.sep p c.args.v.now _ _ _ (c.tokens.invariant.reads p h) c.run-size.ensures.0 (omega arith) c.past-after.ensures.0 refl first (omega arith) c.in_ok-gap.ensures.0 (omega arith) c.past-left.ensures.0;
 }

@@ -22,4 +22,4 @@ pub returns : goal.returns
 returns c =
     let a = c.args.self.now in
     caller_said a.message.now c.args.trunk.now c.requires (passes a) a.reading (count_is a.message.now (sym (judged_is a))) c.in-Some.is c.reading_of-p.ensures
-    c.part-value.ensures.0 c.unfolded_at.ensures.0
+    c.part-value.ensures.0 c.unfolded_at.ensures.0 (omega arith) (omega arith)

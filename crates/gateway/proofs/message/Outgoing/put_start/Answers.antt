@@ -41,12 +41,12 @@ module _ (m : List ℕ) (before line : ℕ) (h : before + 7 ≤ line) (l : line 
         rw (copied, both, append_assoc front back (drop line d))
         (drop_at front (back ++ drop line d) (before + 7) (length-take-le (before + 7) m (omega arith)))
 
-    started : {d₂ : List ℕ} {r : ℕ} → Wrote d₁ before (text "SIP/2.0") r d₂ → Wrote d 0 (sent_start m before line) n d₂
+    started : {d₂ : List ℕ} {r : ℕ} → Wrote d₁ before (text "SIP/2.0") r d₂ → {k : ℕ} → k ≡ n → Wrote d 0 (sent_start m before line) k d₂
     unfolding sent_start text
-    started q =
+    started q same =
         let s : length (sent_start m before line) ≡ line = start_length m before line h l in
         record {
-          next = p.next ∙ next_room d 0 a line_fits ∙ rw long (sym (next_room d 0 (sent_start m before line) (omega arith) ∙ rw s));
+          next = same ∙ p.next ∙ next_room d 0 a line_fits ∙ rw long (sym (next_room d 0 (sent_start m before line) (omega arith) ∙ rw s));
           holds =
               q.holds ∙ put_room d₁ before (text "SIP/2.0") version_fits
               ∙ rw (kept_before, kept_after, put_front d (sent_start m before line) (omega arith), s, append_assoc, append_assoc);
@@ -68,4 +68,4 @@ unfolding text
 returns c =
     let a = c.args.self.now.of.now in
     started a.message.now a.judged.before a.judged.line (version_in a) (line_in a) c.args.out.now (rw (start_long a) at c.requires) c.first.ensures.0
-    c.value-end.ensures c.put.ensures
+    c.value-end.ensures c.put.ensures (omega arith)
