@@ -73,7 +73,7 @@ pub(crate) struct Tally {
     pub caller: Option<sip::CallerAt>,
 }
 
-// A message that no reason but 1, 16 and 18 refuses: whether nothing is ever replied to it, how many bytes of its start line stand before
+// What is found of a message, whole where no reason but 1, 16 and 18 refuses it: whether nothing is ever replied to it, how many bytes of its start line stand before
 // the version, the length of its start line, where the bytes after the empty line start, how many slots there are; the set of fields that
 // it keeps, what its Max-Forwards says, the length of its body, whether its caller is withheld, where the tag stands in its From (no part
 // where it has none), and where the caller's number stands in its P-Asserted-Identity fields, both in the canonical value. That of a response no

@@ -246,6 +246,7 @@ pub fn has_break(s: &[u8]) -> bool
 }
 
 // The two texts have the same bytes.
+#[tactic(auto, using(crate::proofs::Texts::same_pointwise))]
 pub fn same(a: &[u8], b: &[u8]) -> bool
     ensures { result ≡ same a.now b.now }
 {
