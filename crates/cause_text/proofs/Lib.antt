@@ -1,3 +1,4 @@
 pub mod Columns
 pub mod Input
 pub mod Promises
+pub mod Puts

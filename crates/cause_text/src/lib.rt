@@ -1,7 +1,7 @@
 // What people read of the cause map.
 #![tactic(auto)]
 
-ghost use Rattle.std.specs.Prelude.{◌≡◌};
+ghost use Rattle.std.specs.Prelude.{◌≡◌, [], unwrap_or};
 ghost use Rattle.emit.specs.Put.{Wrote};
 ghost use Rattle.emit.specs.Texts.{pushed};
 ghost use Rattle.cause_text.specs.Text.{printed};
@@ -27,6 +27,14 @@ fn push_lines(text: &mut Lines, input: &[u8])
     }
 }
 
+// Writes a text to the front of the buffer, and returns its length. Where there is no text, or no room for it, the buffer stays, and 0 is
+// returned.
+fn put_front(out: &mut [u8], text: &Lines) -> usize
+    ensures { Wrote out.old 0 (unwrap_or text.now []) result out.new }
+{
+    text.put(out, 0)
+}
+
 // Writes what is printed for an input to the front of the buffer, and returns its length. Where there is no room the buffer stays, and 0
 // is returned.
 pub fn put_lines(out: &mut [u8], input: &[u8]) -> usize
@@ -34,7 +42,7 @@ pub fn put_lines(out: &mut [u8], input: &[u8]) -> usize
 {
     let mut text = Lines::new();
     push_lines(&mut text, input);
-    text.put(out, 0)
+    put_front(out, &text)
 }
 
 // Reads the input, and writes what is printed for it. More bytes are read than a line of 19 digits has, so that a longer one is seen
