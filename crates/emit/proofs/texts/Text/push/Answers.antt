@@ -5,9 +5,6 @@ use Rattle.emit.specs.Texts.{pushed}
 use Rattle.emit.proofs.Pushes.{copied, copied_end, no_room, seen}
 use Rattle.emit.proofs.texts.Text.push.Goals as goal
 
-pub invariant_of-self : goal.invariant_of-self
-invariant_of-self g c = copied_end c.copy.ensures c.self.told (leb-true _ _ (sym c.has_room.ensures ∙ c.if-has_room.true))
-
 pub returns-then-has_room : goal.returns-then-has_room
 returns-then-has_room g c =
     copied c.copy.ensures c.self.told (leb-true _ _ (sym c.has_room.ensures ∙ c.if-has_room.true)) _ (seen c.self.inside.bytes c.in-Some.is _ c.self.view_is)
@@ -20,3 +17,6 @@ returns-else-has_room g c =
 pub returns-in_default : goal.returns-in_default
 unfolding pushed
 returns-in_default g c = search rules
+
+pub invariant_of-self : goal.invariant_of-self
+invariant_of-self g c = copied_end c.copy.ensures c.self.told (leb-true _ _ (sym c.has_room.ensures ∙ c.if-has_room.true))

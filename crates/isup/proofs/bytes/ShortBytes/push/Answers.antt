@@ -9,5 +9,5 @@ invariant_of-self g c =
     let long : length b.bytes ≡ g.row.N = search rules in
     record {
       fits = omega (arith, c.requires, count_held b.bytes b.fits b.zeros long);
-      zeros = pushed_zeros b.bytes b.fits b.zeros c.args.b;
+      zeros = pushed_zeros b.bytes b.fits b.zeros c.args.b (omega arith);
     }
