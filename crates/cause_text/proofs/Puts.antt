@@ -7,7 +7,7 @@ use native.Mathlib.Omega.{arith}
 use lib.ListN.{length, take}
 use lib.Seq.{take_all}
 use Rattle.std.specs.Prelude.{Option, Some, None, MatchOption, unwrap_or}
-use Rattle.emit.specs.Put.{Wrote}
+use Rattle.emit.specs.Put.{Wrote, Placed}
 use Rattle.emit.specs.Texts.{pushed}
 use Rattle.emit.proofs.Laws.{next_nil, put_nil}
 use Rattle.emit.proofs.Placing.{placed, stands, put_from}
@@ -28,14 +28,19 @@ module _ (x : List ℕ) {t u : Option (List ℕ)} (a : t ≡ Some []) (b : u ≡
   pub text_put : {d : List ℕ} {r : ℕ} {d' : List ℕ} → Wrote d 0 (unwrap_or u []) r d' → Wrote d 0 (printed x) r d'
   text_put w = rw text_whole at w
 
+  -- a space of its own has room for whatever is printed
+  in_space : {s : List ℕ} {n : ℕ} {s' : List ℕ} → Wrote s 0 (unwrap_or u []) n s' → length s ≡ 1792 → Placed s 0 (printed x) n s'
+  in_space w l = placed (text_put w) (omega (arith, l, (print_room x).1))
+
   pub put_by_space : {s : List ℕ} {n : ℕ} {s' f d : List ℕ} {r : ℕ} {d' : List ℕ} → Wrote s 0 (unwrap_or u []) n s' → length s ≡ 1792
       → f ≡ take n s' → Wrote d 0 f r d' → Wrote d 0 (printed x) r d'
-  put_by_space {s} w l e p = let k = text_put w in put_from (printed x) (placed k (omega (arith, l, (print_room x).1))) e p
+  put_by_space w l e p = put_from (printed x) (in_space w l) e p
 
+  -- in this order `search` finds the premises
   pub put_by_part : {s : List ℕ} {n m : ℕ} {s' f g d : List ℕ} {r : ℕ} {d' : List ℕ} → Wrote d 0 g r d' → g ≡ take m f → f ≡ take n s'
       → Wrote s 0 (unwrap_or u []) n s' → n ≡ m → length s ≡ 1792 → Wrote d 0 (printed x) r d'
   put_by_part {s} {n} {m} {s'} {f} {g} p q e w z l =
-      let k = placed (text_put w) (omega (arith, l, (print_room x).1)) in
+      let k = in_space w l in
       let y : f ≡ printed x = e ∙ stands k in
       let t : take m (printed x) ≡ printed x = take_all m (printed x) (omega (arith, z, k.next)) in
       let j : g ≡ printed x = q ∙ rw y t in

@@ -28,7 +28,7 @@ fn push_lines(text: &mut Lines, input: &[u8])
 }
 
 // Writes a text to the front of the buffer, and returns its length. Where there is no text, or no room for it, the buffer stays, and 0 is
-// returned.
+// returned. One clause says both: that of `Text::put` goes by cases, and `search` applies no law to it.
 fn put_front(out: &mut [u8], text: &Lines) -> usize
     ensures { Wrote out.old 0 (unwrap_or text.now []) result out.new }
 {

@@ -9,10 +9,10 @@ use Rattle.octets.specs.Scans.{run}
 use Rattle.octets.proofs.Runs.{run_le}
 use Rattle.sip.specs.Values.{is_empty, sign, with_token, tokens}
 use Rattle.sip.proofs.Tests.{never}
-use Rattle.values.specs.Answers.{list_at, no_list}
+use Rattle.values.specs.Answers.{Tests, list_at, no_list}
 use Rattle.values.proofs.Within.{not_zero}
 use Rattle.values.proofs.Lists.{no_bytes, has_bytes, no_first, a_first, answer, begins, next, last, later}
-use Rattle.values.proofs.list.list.Goals.{then-is_none+then-wanted, else-is_none, else-is_none-via-then-is_none+else-wanted, else-is_none-via-else-is_none}
+use Rattle.values.proofs.list.list.Goals.{After-past-after, then-is_none+then-wanted, else-is_none, else-is_none-via-then-is_none+else-wanted, else-is_none-via-else-is_none}
 use Rattle.values.proofs.list.list.Goals as goal
 
 module _ (sep : ℕ) (p : List ℕ → Bool) (v : List ℕ) (n f : ℕ) (t : List ℕ) (e : list_at sep p v ≡ answer p n f (tokens sep 0 t)) {m : ℕ} (hm : m ≡ run is_token t) where
@@ -70,30 +70,37 @@ returns-then-size-lt1-clause-reads g c = λ p h.
 pub overflow_add-count : goal.overflow_add-count
 overflow_add-count g c = omega arith
 
+-- what both the end and a turn say of the first that is looked for, after the test
+module _ (g : _) (c : After-past-after g) where
+  found_later : (p : List ℕ → Bool) → Tests g.F.Fn c.args.wanted p
+      → unwrap_or c.if-is_none.first 0 ≡ later p c.tokens.count (unwrap_or c.tokens.first 0) (take c.run-size.result c.tokens.left.now)
+  found_later p h =
+      let b : is_some c.tokens.first ≡ not c.is_none.result = cc in
+      elim c.if-is_none.branch [
+        | then-is_none+then-wanted w ↦
+            this_one p _ c.tokens.first c.tokens.invariant.from_one b w.if-is_none.true w.first-is w.first.ensures.0 w.if-wanted.true
+            (h _ _ (says_at g.F.Fn w.wanted.ensures refl))
+        | else-is_none w ↦ let e : c.if-is_none.first ≡ c.tokens.first = cc in elim w.else-is_none.branch [
+          | else-is_none-via-then-is_none+else-wanted x ↦
+              none_yet p _ c.tokens.first c.tokens.invariant.from_one b x.if-is_none.true e x.first.ensures.0 x.if-wanted.false
+              (h _ _ (says_at g.F.Fn x.wanted.ensures refl))
+          | else-is_none-via-else-is_none x ↦ earlier p _ c.tokens.first c.tokens.invariant.from_one b x.if-is_none.false e _
+        ]
+      ]
+
+  found_from_one : IfSome c.if-is_none.first (λ n. 1 ≤ n)
+  found_from_one = elim c.if-is_none.branch [
+    | then-is_none+then-wanted w ↦ rw w.first-is (omega arith)
+    | else-is_none w ↦ let e : c.if-is_none.first ≡ c.tokens.first = cc in rw e c.tokens.invariant.from_one
+  ]
+
 pub returns-then-after-lt1-clause-reads : goal.returns-then-after-lt1-clause-reads
 returns-then-after-lt1-clause-reads g c = λ p h.
-    let b : is_some c.tokens.first ≡ not c.is_none.result = cc in
-    let first : unwrap_or c.if-is_none.first 0 ≡ later p c.tokens.count (unwrap_or c.tokens.first 0) (take c.run-size.result c.tokens.left.now) = elim c.if-is_none.branch [
-      | then-is_none+then-wanted w ↦
-          this_one p _ c.tokens.first c.tokens.invariant.from_one b w.if-is_none.true w.first-is w.first.ensures.0 w.if-wanted.true
-          (h _ _ (says_at g.F.Fn w.wanted.ensures refl))
-      | else-is_none w ↦ let e : c.if-is_none.first ≡ c.tokens.first = cc in elim w.else-is_none.branch [
-        | else-is_none-via-then-is_none+else-wanted x ↦
-            none_yet p _ c.tokens.first c.tokens.invariant.from_one b x.if-is_none.true e x.first.ensures.0 x.if-wanted.false
-            (h _ _ (says_at g.F.Fn x.wanted.ensures refl))
-        | else-is_none-via-else-is_none x ↦ earlier p _ c.tokens.first c.tokens.invariant.from_one b x.if-is_none.false e _
-      ]
-    ] in
+    let first = found_later g (goal.at.returns-then-after-lt1-clause-reads g c).After-past-after p h in
     whole c.args.sep p c.args.v.now _ _ _ (c.tokens.invariant.reads p h) c.run-size.ensures.0 (omega arith) c.past-after.ensures.0 refl first (omega arith)
 
 pub returns-then-after-lt1-clause-counts : goal.returns-then-after-lt1-clause-counts
-returns-then-after-lt1-clause-counts g c = (
-  omega arith,
-  elim c.if-is_none.branch [
-    | then-is_none+then-wanted w ↦ rw w.first-is (omega arith)
-    | else-is_none w ↦ let e : c.if-is_none.first ≡ c.tokens.first = cc in rw e c.tokens.invariant.from_one
-  ],
-)
+returns-then-after-lt1-clause-counts g c = (omega arith, found_from_one g (goal.at.returns-then-after-lt1-clause-counts g c).After-past-after)
 
 pub returns-in_err-gap-clause-reads : goal.returns-in_err-gap-clause-reads
 returns-in_err-gap-clause-reads g c = λ p h.
@@ -104,24 +111,11 @@ pub tokens-smaller : goal.tokens-smaller
 tokens-smaller g c = omega arith
 
 pub tokens-preserved : goal.tokens-preserved
-tokens-preserved g c = record {
-  counts = omega arith;
-  from_one = elim c.if-is_none.branch [
-    | then-is_none+then-wanted w ↦ rw w.first-is (omega arith)
-    | else-is_none w ↦ let e : c.if-is_none.first ≡ c.tokens.first = cc in rw e c.tokens.invariant.from_one
-  ];
-  reads = λ p h.
-      let b : is_some c.tokens.first ≡ not c.is_none.result = cc in
-      let first : unwrap_or c.if-is_none.first 0 ≡ later p c.tokens.count (unwrap_or c.tokens.first 0) (take c.run-size.result c.tokens.left.now) = elim c.if-is_none.branch [
-        | then-is_none+then-wanted w ↦
-            this_one p _ c.tokens.first c.tokens.invariant.from_one b w.if-is_none.true w.first-is w.first.ensures.0 w.if-wanted.true
-            (h _ _ (says_at g.F.Fn w.wanted.ensures refl))
-        | else-is_none w ↦ let e : c.if-is_none.first ≡ c.tokens.first = cc in elim w.else-is_none.branch [
-          | else-is_none-via-then-is_none+else-wanted x ↦
-              none_yet p _ c.tokens.first c.tokens.invariant.from_one b x.if-is_none.true e x.first.ensures.0 x.if-wanted.false
-              (h _ _ (says_at g.F.Fn x.wanted.ensures refl))
-          | else-is_none-via-else-is_none x ↦ earlier p _ c.tokens.first c.tokens.invariant.from_one b x.if-is_none.false e _
-        ]
-      ] in
-      again c.args.sep p c.args.v.now _ _ _ (c.tokens.invariant.reads p h) c.run-size.ensures.0 (omega arith) c.past-after.ensures.0 refl first (omega arith) c.in_ok-gap.ensures.0 (omega arith) c.past-left.ensures.0;
-}
+tokens-preserved g c =
+    let s = (goal.at.tokens-preserved g c).After-past-after in
+    record {
+      counts = omega arith;
+      from_one = found_from_one g s;
+      reads = λ p h.
+          again c.args.sep p c.args.v.now _ _ _ (c.tokens.invariant.reads p h) c.run-size.ensures.0 (omega arith) c.past-after.ensures.0 refl (found_later g s p h) (omega arith) c.in_ok-gap.ensures.0 (omega arith) c.past-left.ensures.0;
+    }
